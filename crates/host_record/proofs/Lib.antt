@@ -1,0 +1,4 @@
+mod Examples
+pub mod ByteLemmas
+pub mod RequestLemmas
+pub mod ResponseLemmas

@@ -1,0 +1,4 @@
+pub mod Command
+pub mod Request
+pub mod Response
+pub mod Status
