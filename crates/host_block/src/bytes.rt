@@ -1,5 +1,5 @@
 // A piece of bytes of fixed length, which contracts see as a list.
-ghost use Rattle.std.specs.Prelude.{◌≡◌, ◌++◌, ℕ, List, length, take, drop, replicate, IfOk, slice_get};
+ghost use Rattle.std.specs.Prelude.{◌≡◌, ◌++◌, ℕ, List, [], length, take, drop, replicate, IfOk, slice_get};
 ghost use Rattle.std.specs.Option.{option_copied};
 ghost use Rattle.std.specs.Borrow.{Lends, Array, sem};
 ghost use Rattle.std.specs.Borrow.{u8 as byte};
@@ -24,6 +24,15 @@ impl Model for Bytes {
 }
 
 impl Bytes {
+    /// No bytes, which take no memory.
+    pub fn empty(alloc: Global) -> Bytes
+        ensures { result ≡ [] }
+    {
+        Bytes {
+            bytes: Vec::new(alloc),
+        }
+    }
+
     /// `n` zero bytes.
     pub fn zeroed(alloc: Global, n: u32) -> Result<Bytes, Oom>
         ensures { IfOk result (λ b. b ≡ replicate n 0) }
