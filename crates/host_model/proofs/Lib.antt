@@ -1,0 +1,12 @@
+pub mod Checks
+pub mod Counts
+pub mod Exactly
+pub mod Growth
+pub mod Inside
+pub mod Lent
+pub mod ListTests
+pub mod Ordering
+pub mod ExampleParts
+pub mod LawfulSessions
+pub mod RealisticSession
+pub mod RefusedSessions

@@ -1,0 +1,17 @@
+pub mod Answers
+pub mod Buffers
+pub mod Carrying
+pub mod Changes
+pub mod ClientEntries
+pub mod Groups
+pub mod LawfulSession
+pub mod Laws
+pub mod Lists
+pub mod Log
+pub mod Order
+pub mod Pages
+pub mod RecordEntries
+pub mod Releases
+pub mod Session
+pub mod Taking
+pub mod Verdict
