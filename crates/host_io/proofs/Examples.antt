@@ -1,0 +1,57 @@
+-- The definitions computed on small values: bytes cut into blocks of two.
+use Rattle.std.proofs.Common.{◌≡◌, ◌^◌, ◌-◌, ℕ, List, [], ◌∷◌, refl, Some, None}
+use Rattle.host_block.specs.Disk.{fresh, added}
+use Rattle.host_io.specs.Causes.{next_count}
+use Rattle.host_io.specs.Copies.{joined, bytes_of}
+use Rattle.host_io.specs.Fails.{part_listed}
+use Rattle.host_io.specs.Flat.{image_of, put_all}
+use Rattle.host_io.specs.MemDisk.{part_written}
+use Rattle.host_io.specs.declared.fails.CallKind.TheVariants.{Read, Write, Sync}
+use Rattle.host_io.specs.declared.fails.FailAt.{FailAt}
+
+one_more : next_count 7 ≡ 8
+one_more = refl
+
+last_count_stays : next_count (2 ^ 64 - 1) ≡ 2 ^ 64 - 1
+last_count_stays = refl
+
+-- the second write fails with nothing done, though it is named again, and the first sync with three writes done
+abbrev fails : List FailAt
+fails = record { kind = Write; nr = 2; part = 0 } ∷ record { kind = Sync; nr = 1; part = 3 } ∷ record { kind = Write; nr = 2; part = 1 } ∷ []
+
+first_entry_counts : part_listed fails Write 2 ≡ Some 0
+first_entry_counts = refl
+
+sync_fails : part_listed fails Sync 1 ≡ Some 3
+sync_fails = refl
+
+other_number : part_listed fails Write 1 ≡ None
+other_number = refl
+
+other_kind : part_listed fails Read 2 ≡ None
+other_kind = refl
+
+abbrev bytes : List ℕ
+bytes = 1 ∷ 2 ∷ 3 ∷ 4 ∷ 5 ∷ []
+
+abbrev image : List (List ℕ)
+image = (1 ∷ 2 ∷ []) ∷ (3 ∷ 4 ∷ []) ∷ []
+
+-- the byte behind the last whole block is in none
+whole_blocks : image_of 2 bytes ≡ image
+whole_blocks = refl
+
+put_in_order : put_all 2 bytes ((1, (8 ∷ 8 ∷ [])) ∷ (1, (9 ∷ 9 ∷ [])) ∷ []) ≡ 1 ∷ 2 ∷ 9 ∷ 9 ∷ 5 ∷ []
+put_in_order = refl
+
+blocks_joined : joined image ≡ 1 ∷ 2 ∷ 3 ∷ 4 ∷ []
+blocks_joined = refl
+
+last_write_read : bytes_of (added (fresh image) 0 (7 ∷ 7 ∷ [])) 2 ≡ 7 ∷ 7 ∷ 3 ∷ 4 ∷ []
+last_write_read = refl
+
+nothing_done : part_written (fresh image) 0 (7 ∷ 7 ∷ []) 0 ≡ fresh image
+nothing_done = refl
+
+write_done : part_written (fresh image) 0 (7 ∷ 7 ∷ []) 1 ≡ added (fresh image) 0 (7 ∷ 7 ∷ [])
+write_done = refl

@@ -1,0 +1,4 @@
+pub mod CopyLemmas
+mod Examples
+pub mod FailLemmas
+pub mod FlatLemmas

@@ -1,0 +1,12 @@
+pub mod Causes
+pub mod Copies
+pub mod Disks
+pub mod Fails
+pub mod Flat
+pub mod FlatShape
+pub mod Laws
+pub mod MemDisk
+pub mod MemSink
+pub mod MemSource
+pub mod Streams
+pub mod Waiting
