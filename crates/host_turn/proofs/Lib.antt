@@ -1,0 +1,5 @@
+pub mod Totals
+pub mod Histories
+pub mod Stepping
+pub mod Seating
+pub mod SeatLists

@@ -1,0 +1,133 @@
+-- Lists of seats.
+use Rattle.std.proofs.Common.{◌≡◌, ◌⊎◌, ℕ, zero, suc, ◌+◌, ◌-◌, ◌≤◌, List, [], ◌∷◌, ◌++◌, length, map, sym, refl, ap, ap₂, subst, ◌∙◌, inl, inr, ⊎_elim, length-append, arith}
+use Rattle.std.specs.Prelude.{Option, Some, None}
+use Rattle.std.specs.Option.{unwrap_or, IsSome, option_to_list}
+use Rattle.std.specs.List.{slice_get, All}
+use Rattle.std.proofs.lemmas.List.Elements.{All-nil, All-cons}
+use Rattle.host_turn.specs.declared.rule.Opening.{Opening}
+use Rattle.host_turn.specs.declared.book.Book.{Book}
+use Rattle.host_turn.specs.declared.seat.BookSeat.{BookSeat}
+use Rattle.host_turn.specs.declared.view.View.{View}
+use Rattle.host_turn.specs.declared.view.Stage.{Stage}
+use Rattle.host_turn.specs.History.{entries_of, Continues}
+use Rattle.host_turn.specs.Views.{AnyHasSeen, after_making, new_seat, gathered, is_at_rest, members_at, members_of}
+use Rattle.host_turn.specs.Rule.{OneHistory}
+use Rattle.host_turn.specs.Seats.{IsNewSeat, AreNewSeats, number, seen, IsSeenBySome, member_of, IsMaker, IsSeatOutside, HasGathered, book_id, opening_of, seat_count}
+use Rattle.atomic_table.specs.Seated.{TableId}
+use mathlib.Core.Option.{some, some-injective}
+use lib.ListN.{get_elem?}
+use Rattle.atomic_table.specs.Table.{Final, Seen}
+use Rattle.atomic_table.specs.declared.shared.Seat.{Seat}
+use Rattle.host_turn.proofs.Stepping.{Mems}
+use Rattle.host_turn.proofs.Seating.{ends}
+
+module _ {A : Type 0} where
+  pub some_same : (a b : A) → Some a ≡ Some b → a ≡ b
+  some_same a b e = ap (λ o. unwrap_or o a) e
+
+  pub is_some : (o : Option A) (a : A) → o ≡ Some a → IsSome o
+  is_some o a e = subst IsSome (sym e) refl
+
+  abbrev count : Option A → ℕ
+  count None = 0
+  count (Some _) = 1
+
+  none_some : (b : A) → None ≡ Some b → ⊥
+  none_some b e = let g : ◌≡◌ {A = ℕ} (count None) (count (Some b)) = ap count e in let h : ◌≡◌ {A = ℕ} 0 1 = g in omega arith
+
+  slice_get_snoc : (xs : List A) (a b : A) (j : ℕ) → slice_get (xs ++ a ∷ []) j ≡ Some b → (slice_get xs j ≡ Some b) ⊎ ((j ≡ length xs) × (a ≡ b))
+  slice_get_snoc [] a b zero e = inr (refl, some_same a b e)
+  slice_get_snoc [] a b (suc j) e = absurd (none_some b e)
+  slice_get_snoc (x ∷ xs) a b zero e = inl e
+  slice_get_snoc (x ∷ xs) a b (suc j) e = ⊎_elim (λ t. inl t) (λ t. inr (ap suc t.0, t.1)) (slice_get_snoc xs a b j e)
+
+module _ {A : Type 0} where
+  pub no_seats : (xs : List A) → length xs ≡ 0 → xs ≡ []
+  no_seats [] e = refl
+  no_seats (x ∷ xs) e = absurd (omega arith)
+
+  slice_get_last : (xs : List A) (a : A) → slice_get (xs ++ a ∷ []) (length xs) ≡ Some a
+  slice_get_last [] a = refl
+  slice_get_last (x ∷ xs) a = slice_get_last xs a
+
+  slice_get_longer : (xs ys : List A) (j : ℕ) (a : A) → slice_get xs j ≡ Some a → slice_get (xs ++ ys) j ≡ Some a
+  slice_get_longer [] ys j a e = absurd (none_some a e)
+  slice_get_longer (x ∷ xs) ys zero a e = e
+  slice_get_longer (x ∷ xs) ys (suc j) a e = slice_get_longer xs ys j a e
+
+module _ {S E F : Type 0} (story : S → List E) (fixed : S → F) (b : TableId) (x : S) where
+  -- a seat that is popped, and those that are left
+  pub seats_pop : (all qs : List (BookSeat S E F)) (o : Option (BookSeat S E F)) (q : BookSeat S E F) → all ≡ qs ++ option_to_list o → o ≡ Some q → AreNewSeats story fixed b x all
+      → AreNewSeats story fixed b x qs × IsNewSeat story fixed b x (length qs) q × (length all ≡ length qs + 1)
+  seats_pop all qs o q items is new = let whole = subst (AreNewSeats story fixed b x) (items ∙ ap (λ z. qs ++ option_to_list z) is) new in
+      ((λ n p e. whole n p (slice_get_longer qs (q ∷ []) n p e)), whole (length qs) q (slice_get_last qs q), ap length (items ∙ ap (λ z. qs ++ option_to_list z) is) ∙ length-append qs (q ∷ []))
+
+  pub none_yet : AreNewSeats story fixed b x []
+  none_yet n q e = absurd (none_some q e)
+
+  pub one_seat_more : (n : ℕ) (qs : List (BookSeat S E F)) (q : BookSeat S E F) → length qs ≡ n → AreNewSeats story fixed b x qs → IsNewSeat story fixed b x n q → AreNewSeats story fixed b x (qs ++ q ∷ [])
+  one_seat_more n qs q len all new j p e = ⊎_elim (λ t. all j p t) (λ t. subst (λ (z : ℕ × BookSeat S E F). IsNewSeat story fixed b x z.0 z.1) (λ i. (sym (t.0 ∙ len) i, t.1 i)) new) (slice_get_snoc qs q p j e)
+
+module _ {S E F : Type 0} (story : S → List E) (fixed : S → F) (b : Book S E F) where
+  -- the maker makes a seat
+  pub seat_made : (left n : ℕ) (old new made : Seat (Option S) (View E F)) → IsMaker story fixed b left n old → new.table_id ≡ old.table_id → new.me ≡ (after_making old.me.0, old.me.1)
+      → made.table_id ≡ old.table_id → made.me ≡ (new_seat old.me.0, []) → IsMaker story fixed b (left - 1) (n + 1) new × IsNewSeat story fixed (book_id b) (opening_of b) n record { seat = made }
+  seat_made left n old new made is a c d e = (
+    (
+      a ∙ is.0,
+      ap (λ t. t.0.stage) c ∙ is.1,
+      ap (λ t. t.0.share) c ∙ ap (λ (z : ℕ). z - 1) is.2,
+      ap (λ t. t.0.number) c ∙ ap (λ (z : ℕ). z + 1) is.3,
+      ap (λ t. t.0.seen) c ∙ is.4,
+      ap (λ t. t.0.fixed) c ∙ is.5,
+    ),
+    (
+      d ∙ is.0,
+      (ap (λ t. t.0.stage) e, ap (λ t. t.1) e, ap (λ t. t.0.share) e),
+      ap (λ t. t.0.number) e ∙ is.3,
+      ap (λ t. t.0.seen) e ∙ is.4,
+      ap (λ t. t.0.fixed) e ∙ is.5,
+    ),
+  )
+
+module _ {S E F : Type 0} (b : Book S E F) where
+  -- a seat takes in another
+  pub one_more_gathered : (n : ℕ) (ms : List (ℕ × List E)) (base new q : BookSeat S E F) → HasGathered b base n ms → IsSeatOutside b q → new.seat.table_id ≡ base.seat.table_id
+      → new.seat.me ≡ (gathered base.seat.me.0 q.seat.me.0, base.seat.me.1) → HasGathered b new (n + 1) (member_of q ∷ ms)
+  one_more_gathered n ms base new q is out t m = (
+    t ∙ is.0,
+    ap (λ z. is_at_rest z.0.stage) m,
+    ap (λ z. z.1) m ∙ is.2,
+    ap (λ z. z.0.share) m ∙ ap₂ (λ (i j : ℕ). i + j) is.3 out.1.2,
+    ap (λ z. members_of z.0) m ∙ ap₂ (λ i j. i ++ j) (ap (λ (st : Stage). members_at st q.seat.me.0) out.1.0) is.4,
+  )
+
+module _ {S E F : Type 0} (story : S → List E) (maker : E → ℕ) (fixed : S → F) (k : Opening S) where
+  -- what the members know, the seats know
+  pub whole_of_members : (made : ℕ) (xs : List E) (qs : List (BookSeat S E F)) → Mems story maker fixed k made xs (map member_of qs) → All (λ q. Continues maker (number q) (seen q) xs) qs
+  whole_of_members made xs [] h = All-nil (λ q. Continues maker (number q) (seen q) xs)
+  whole_of_members made xs (q ∷ qs) h = All-cons (λ q. Continues maker (number q) (seen q) xs) q qs (h.0.0, h.0.1) (whole_of_members made xs qs h.1)
+
+seen_by : {S E F : Type 0} (qs : List (BookSeat S E F)) (xs : List E) → AnyHasSeen (map member_of qs) xs → IsSeenBySome qs xs
+seen_by [] xs p = absurd p
+seen_by (q ∷ qs) xs p = ⊎_elim (λ e. (0, q, refl, e)) (λ t. let r = seen_by qs xs t in (suc r.0, r.1, r.2, r.3)) p
+
+map-snoc : {A B : Type 0} (f : A → B) (xs : List A) (y : A) → map f (xs ++ y ∷ []) ≡ map f xs ++ f y ∷ []
+map-snoc f [] y = refl
+map-snoc f (x ∷ xs) y = ap (λ l. f x ∷ l) (map-snoc f xs y)
+
+module _ {S E F : Type 0} (story : S → List E) (maker : E → ℕ) (fixed : S → F) (b : Book S E F) where
+  -- what the last seat tells, once it has taken in all others
+  pub closing : (base q : BookSeat S E F) (qs all : List (BookSeat S E F)) (ws : List ℕ) (xs : List (Option S)) (slot : Option S) → all ≡ qs ++ q ∷ [] → HasGathered b base (seat_count b) (map member_of qs ++ member_of q ∷ [])
+      → Final (Seen (OneHistory story maker fixed b.table.shared.key) base.seat.id base.seat.me.0) ws xs → get_elem? xs 0 ≡ some slot
+      → (x : S) × (slot ≡ Some x) × All (λ q. Continues maker (number q) (seen q) (story x)) all × ((n : ℕ) → seat_count b ≤ n → entries_of maker n (story x) ≡ entries_of maker n (story (opening_of b))) × (fixed x ≡ fixed (opening_of b))
+      × ((story x ≡ story (opening_of b)) ⊎ IsSeenBySome all (story x))
+  closing base q qs all ws xs slot is has f at = let k = b.table.shared.key in let e = ends story maker fixed k base.seat.id base.seat.me.0 ws xs has.1 has.3 f in let x : S = e.0 in
+      let names = has.4 ∙ (sym (map-snoc member_of qs q) ∙ ap (map member_of) (sym is)) in (
+        x,
+        some-injective slot (Some x) (sym at ∙ e.1),
+        whole_of_members story maker fixed k k.seats (story x) all (subst (λ (z : List (ℕ × List E)). Mems story maker fixed k k.seats (story x) z) names e.3),
+        e.4,
+        e.2,
+        ⊎_elim (λ t. inl t) (λ t. inr (seen_by all (story x) (subst (λ (z : List (ℕ × List E)). AnyHasSeen z (story x)) names t))) e.5,
+      )

@@ -1,0 +1,293 @@
+-- The steps of a seat keep the rule of the turn lock.
+use Rattle.std.proofs.Common.{◌≡◌, ◌≢◌, ◌⊎◌, ℕ, zero, suc, ◌+◌, ◌%◌, ◌^◌, ◌<◌, ◌≤◌, List, [], ◌∷◌, get_or, set, sym, refl, ap, subst, ◌∙◌, inl, inr, ⊎_elim, append-nil, arith}
+use Rattle.std.proofs.Math.Nat.{mod-add-mod}
+use Rattle.std.specs.Prelude.{Option, Some, None}
+use Rattle.std.specs.Option.{unwrap_or}
+use mathlib.Core.Option.{none, some, some-injective, some-ne-none}
+use mathlib.Core.Option as maybe
+use mathlib.Core.List.{IsPrefix}
+use mathlib.Core.Logic.{dite}
+use native.Mathlib.Decide.{ℕ_discrete}
+use lib.ListN.{get_elem?}
+use Rattle.atomic_table.specs.Table.{State, Me, step, keeps, takes, gives, Allows, homes_after, rest}
+use Rattle.atomic_table.proofs.Lists.{at_set, set_again, set_else, one_turn}
+use Rattle.host_turn.specs.declared.rule.Opening.{Opening}
+use Rattle.host_turn.specs.declared.view.View.{View}
+use Rattle.host_turn.specs.declared.view.Stage.{Stage}
+use Rattle.host_turn.specs.declared.view.Stage.TheVariants.{Maker, Outside, Waiting, Inside, Note, Closing, Spent}
+use Rattle.host_turn.specs.History.{entries_of, Adds, longer}
+use Rattle.host_turn.specs.Views.{total, has_ticket, HasNumber, AnyHasSeen, tickets_of, share_of, waiting, inside, outside, merged, members_at, members_of}
+use Rattle.host_turn.specs.Rule.{IsOpeningOrSeen, IsMember, AreMembers, Knows, Apart, AtHome, Away, OneHistory}
+use Rattle.host_turn.specs.Steps.{DrawsTicket, TakesTurn, PassesTurn, MergesTold, held_history}
+use Rattle.host_turn.proofs.Totals.{total_set, total_le}
+use Rattle.host_turn.proofs.Histories.{prefix_refl, prefix_nil, prefix_trans, adds_none, entries_between, longer_left, longer_right, longer_begins, prefix_same}
+
+pub here : {A : Type 0} (xs : List A) (i : ℕ) (v w : A) → get_elem? xs i ≡ some v → get_elem? (set xs i w) i ≡ some w
+here [] i v w e = absurd (some-ne-none v (sym e))
+here (x ∷ xs) zero v w e = refl
+here (x ∷ xs) (suc i) v w e = here xs i v w e
+
+module _ {S E F : Type 0} (story : S → List E) (maker : E → ℕ) (fixed : S → F) (k : Opening S) where
+  abbrev pub V : Type 0
+  V = View E F
+
+  abbrev pub St : Type 0
+  St = State (Option S) V
+
+  abbrev pub K : St → Type 0
+  K = OneHistory story maker fixed k
+
+  abbrev pub first : List E
+  first = story k.state.value
+
+  abbrev pub fixed_value : F
+  fixed_value = fixed k.state.value
+
+  abbrev pub Kn : ℕ → ℕ → ℕ → List E → ℕ → V → Type 0
+  Kn next serving made last j u = Knows story maker fixed next serving made k.seats first last fixed_value j u u.stage
+
+  abbrev pub Ap : ℕ → V → ℕ → V → Type 0
+  Ap = Apart story maker fixed
+
+  pub apart_sym : (i : ℕ) (v : V) (j : ℕ) (w : V) → Ap i v j w → Ap j w i v
+  apart_sym i v j w a = ((λ n p q. sym (a.0 n q p)), λ p q e. sym (a.1 q p (sym e)))
+
+  -- what stays where one view changes
+  pub moved : (s : St) (r : K s) (id : ℕ) (v w : V) (words' : List ℕ) (homes' : List (maybe.Option (Option S))) (next' serving' : ℕ) (last' : List E)
+      → get_elem? s.views id ≡ some v → words' ≡ next' % 2 ^ 64 ∷ serving' % 2 ^ 64 ∷ [] → next' + r.serving + tickets_of v ≡ r.next + serving' + tickets_of w → share_of w ≡ share_of v
+      → ((n : ℕ) → r.made ≤ n → entries_of maker n last' ≡ entries_of maker n first) → Kn next' serving' r.made last' id w
+      → ((j : ℕ) (u : V) → j ≢ id → get_elem? s.views j ≡ some u → Kn next' serving' r.made last' j u)
+      → ((j : ℕ) (u : V) → j ≢ id → get_elem? s.views j ≡ some u → Ap id w j u)
+      → AtHome story maker fixed k record { words = words'; homes = homes'; views = set s.views id w } last' ⊎ Away story maker fixed k record { words = words'; homes = homes'; views = set s.views id w } last'
+      → IsOpeningOrSeen story maker fixed first (set s.views id w) last'
+      → K record { words = words'; homes = homes'; views = set s.views id w }
+  moved s r id v w words' homes' next' serving' last' at words count same others mine rest apart slot witnessed =
+      let q = total_set tickets_of s.views id v w at in let p = total_set share_of s.views id v w at in let d = r.drawn in record {
+        next = next';
+        serving = serving';
+        made = r.made;
+        last = last';
+        words = words;
+        drawn = omega arith;
+        shares = (let e : total share_of (set s.views id w) ≡ total share_of s.views = omega arith in e) ∙ r.shares;
+        few = r.few;
+        within = r.within;
+        others = others;
+        each = λ j u e. ⊎_elim (λ t. subst (λ (z : ℕ × V). Kn next' serving' r.made last' z.0 z.1) (λ i. (sym t.0 i, t.1 i)) mine) (λ t. rest j u t.0 t.1) (at_set s.views id j w u e);
+        apart = λ i j a b ea eb. ⊎_elim
+            (λ t. ⊎_elim (λ t'. let e : i ≡ j = t.0 ∙ sym t'.0 in ((λ _ _ _. e), λ _ _ _. e)) (λ t'. subst (λ (z : ℕ × V). Ap z.0 z.1 j b) (λ l. (sym t.0 l, t.1 l)) (apart j b t'.0 t'.1)) (at_set s.views id j w b eb))
+            (λ t. ⊎_elim (λ t'. apart_sym j b i a (subst (λ (z : ℕ × V). Ap z.0 z.1 i a) (λ l. (sym t'.0 l, t'.1 l)) (apart i a t.0 t.1))) (λ t'. r.apart i j a b t.1 t'.1) (at_set s.views id j w b eb))
+            (at_set s.views id i w a ea);
+        witnessed = witnessed;
+        slot = slot;
+      }
+
+  abbrev pub M : Type 0
+  M = Me (Option S) V
+
+  abbrev pub is_inside : Stage → ℕ
+  is_inside Inside = 1
+  is_inside _ = 0
+
+  pub out : (a : Stage) → is_inside a ≡ 0 → a ≢ Inside
+  out a z e = let o : is_inside a ≡ 1 = ap is_inside e in omega arith
+
+  pub same_view : (views : List V) (h id : ℕ) (u v : V) → get_elem? views h ≡ some u → get_elem? views id ≡ some v → h ≡ id → u ≡ v
+  same_view views h id u v a b e = some-injective u v (sym a ∙ (ap (λ i. get_elem? views i) e ∙ b))
+
+  -- the slot, where a view changes that hasn't the turn
+  pub slot_stays : (s : St) (id : ℕ) (v w : V) (words' : List ℕ) (last : List E) → get_elem? s.views id ≡ some v → is_inside v.stage ≡ 0 → is_inside w.stage ≡ 0
+      → AtHome story maker fixed k s last ⊎ Away story maker fixed k s last
+      → AtHome story maker fixed k record { words = words'; homes = s.homes; views = set s.views id w } last ⊎ Away story maker fixed k record { words = words'; homes = s.homes; views = set s.views id w } last
+  slot_stays s id v w words' last at a b c = ⊎_elim
+      (λ t. inl (t.0, t.1, t.2, t.3, λ j u e. ⊎_elim (λ z. out u.stage (ap (λ (y : V). is_inside y.stage) (sym z.1) ∙ b)) (λ z. t.4 j u z.1) (at_set s.views id j w u e)))
+      (λ t. let ne : t.0 ≢ id = λ e. out v.stage a (ap (λ (y : V). y.stage) (sym (same_view s.views t.0 id t.1 v t.2 at e)) ∙ t.3) in inr (t.0, t.1, set_else s.views id t.0 w ne ∙ t.2, t.3, t.4))
+      c
+
+  -- somebody has still seen the whole story
+  pub witness_stays : (views : List V) (id : ℕ) (v w : V) (last : List E) → get_elem? views id ≡ some v → (AnyHasSeen (members_of v) last → AnyHasSeen (members_of w) last) → IsOpeningOrSeen story maker fixed first views last → IsOpeningOrSeen story maker fixed first (set views id w) last
+  witness_stays views id v w last at f c = ⊎_elim (λ t. inl t)
+      (λ t. dite (ℕ_discrete t.0 id)
+      (λ e. inr (id, w, here views id v w at, f (subst (λ (z : V). AnyHasSeen (members_of z) last) (same_view views t.0 id t.1 v t.2 at e) t.3)))
+      (λ ne. inr (t.0, t.1, set_else views id t.0 w ne ∙ t.2, t.3)))
+      c
+
+  later_ticket : (next next' serving made : ℕ) (last : List E) (j : ℕ) (u : V) (a : Stage) → next ≤ next' → Knows story maker fixed next serving made k.seats first last fixed_value j u a
+      → Knows story maker fixed next' serving made k.seats first last fixed_value j u a
+  later_ticket next next' serving made last j u Maker le h = h
+  later_ticket next next' serving made last j u Outside le h = h
+  later_ticket next next' serving made last j u Waiting le h = let l = h.2 in (h.0, h.1, omega arith)
+  later_ticket next next' serving made last j u Inside le h = let l = h.2 in (h.0, h.1, omega arith, h.3)
+  later_ticket next next' serving made last j u Note le h = h
+  later_ticket next next' serving made last j u Closing le h = h
+  later_ticket next next' serving made last j u Spent le h = h
+
+  below_next : (next serving made : ℕ) (last : List E) (j : ℕ) (u : V) (a : Stage) → has_ticket a ≡ 1 → Knows story maker fixed next serving made k.seats first last fixed_value j u a → u.ticket < next
+  below_next next serving made last j u Maker q h = absurd (omega arith)
+  below_next next serving made last j u Outside q h = absurd (omega arith)
+  below_next next serving made last j u Waiting q h = h.2
+  below_next next serving made last j u Inside q h = h.2
+  below_next next serving made last j u Note q h = absurd (omega arith)
+  below_next next serving made last j u Closing q h = absurd (omega arith)
+  below_next next serving made last j u Spent q h = absurd (omega arith)
+
+  pub knows : (s : St) (r : K s) (id : ℕ) (v : V) (a : Stage) → get_elem? s.views id ≡ some v → v.stage ≡ a → Knows story maker fixed r.next r.serving r.made k.seats first r.last fixed_value id v a
+  knows s r id v a at is = subst (λ (z : Stage). Knows story maker fixed r.next r.serving r.made k.seats first r.last fixed_value id v z) is (r.each id v at)
+
+  -- the numbers of a seat stay apart from the others'
+  pub names_apart : (s : St) (r : K s) (id : ℕ) (v : V) (a : Stage) → get_elem? s.views id ≡ some v → v.stage ≡ a → (j : ℕ) (u : V) → get_elem? s.views j ≡ some u
+      → (n : ℕ) → HasNumber (members_at a v) n → HasNumber (members_of u) n → id ≡ j
+  names_apart s r id v a at is j u e n p q = (r.apart id j v u at e).0 n (subst (λ (z : Stage). HasNumber (members_at z v) n) (sym is) p) q
+
+  pub draw_allowed : (n id : ℕ) (me : M) → me.0.stage ≡ Outside → Allows K n id me 0 (λ x. (x + 1) % 2 ^ 64) (DrawsTicket story maker fixed (step n 0 1 0 none) me)
+  draw_allowed n id me is s r wide at small = let v : V = me.0 in let t : ℕ = r.next in let w : V = waiting v t in let own = knows s r id v Outside at is in let d = r.drawn in
+      let q : has_ticket v.stage ≡ 0 = ap has_ticket is in (
+        w,
+        keeps,
+        tt,
+        moved s r id v w (set s.words 0 ((get_or s.words 0 0 + 1) % 2 ^ 64)) s.homes (t + 1) r.serving r.last at
+            ((λ i. set (r.words i) 0 ((get_or (r.words i) 0 0 + 1) % 2 ^ 64)) ∙ ap (λ z. z ∷ r.serving % 2 ^ 64 ∷ []) (mod-add-mod t (2 ^ 64) 1))
+            (omega arith) refl r.others (own, omega arith, omega arith) (λ j u _ e. later_ticket t (t + 1) r.serving r.made r.last j u u.stage (omega arith) (r.each j u e))
+            (λ j u ne e. (names_apart s r id v Outside at is j u e, λ _ two same. let l = below_next t r.serving r.made r.last j u u.stage two (r.each j u e) in absurd (omega arith)))
+            (slot_stays s id v w (set s.words 0 ((get_or s.words 0 0 + 1) % 2 ^ 64)) r.last at (ap is_inside is) refl r.slot)
+            (witness_stays s.views id v w r.last at (λ e. subst (λ (z : Stage). AnyHasSeen (members_at z v) r.last) is e) r.witnessed),
+        (t, refl, ap (λ l. get_or l 0 0) r.words),
+      )
+
+  ticket_le_share : (next serving made : ℕ) (last : List E) (j : ℕ) (u : V) (a : Stage) → Knows story maker fixed next serving made k.seats first last fixed_value j u a → has_ticket a ≤ u.share
+  ticket_le_share next serving made last j u Maker h = omega arith
+  ticket_le_share next serving made last j u Outside h = omega arith
+  ticket_le_share next serving made last j u Waiting h = let one = h.0.3 in omega arith
+  ticket_le_share next serving made last j u Inside h = let one = h.0.3 in omega arith
+  ticket_le_share next serving made last j u Note h = omega arith
+  ticket_le_share next serving made last j u Closing h = omega arith
+  ticket_le_share next serving made last j u Spent h = omega arith
+
+  -- fewer tickets are out than a word can tell apart
+  pub short_queue : (s : St) (r : K s) → r.next < r.serving + 2 ^ 64
+  short_queue s r = let few = r.few in let all = r.shares in let d = r.drawn in
+      let le = total_le tickets_of share_of s.views (λ j v e. ticket_le_share r.next r.serving r.made r.last j v v.stage (r.each j v e)) in omega arith
+
+  same_word : (s : St) (r : K s) → set s.words 1 (get_or s.words 1 0) ≡ r.next % 2 ^ 64 ∷ r.serving % 2 ^ 64 ∷ []
+  same_word s r = λ i. set (r.words i) 1 (get_or (r.words i) 1 0)
+
+  -- a load that tells nothing
+  unmoved : (s : St) (r : K s) (id : ℕ) (v : V) → get_elem? s.views id ≡ some v → K record { words = set s.words 1 (get_or s.words 1 0); homes = s.homes; views = set s.views id v }
+  unmoved s r id v at = let p : s.words ≡ set s.words 1 (get_or s.words 1 0) = r.words ∙ sym (same_word s r) in
+      subst K (λ i. record { words = p i; homes = s.homes; views = sym (set_again s.views id v at) i }) r
+
+  pub take_allowed : (n id : ℕ) (me : M) → me.0.stage ≡ Waiting → Allows K n id me 1 (λ x. x) (TakesTurn story maker fixed (step n 1 0 0 none) me)
+  take_allowed n id me is s r wide at small = let v : V = me.0 in let t : ℕ = v.ticket in let y : ℕ = get_or s.words 1 0 in let kn = knows s r id v Waiting at is in let own = kn.0 in
+      let found : y ≡ r.serving % 2 ^ 64 = ap (λ l. get_or l 1 0) r.words in dite (ℕ_discrete y (t % 2 ^ 64))
+      (λ hit. let few = short_queue s r in let above = kn.1 in let below = kn.2 in
+      let same : r.serving ≡ t = one_turn r.serving t (2 ^ 64) above (omega arith) (sym found ∙ hit) in ⊎_elim
+      (λ home. let x : S = home.0 in let w : V = inside v (story x) in let told : story x ≡ r.last = home.2 in (
+        w,
+        takes 0 (Some x),
+        ap (λ l. get_elem? l 0) home.1,
+        moved s r id v w (set s.words 1 y) (set s.homes 0 none) r.next r.serving r.last at (same_word s r) (let q : has_ticket v.stage ≡ 1 = ap has_ticket is in omega arith) refl r.others
+            (((([], append-nil (story x) ∙ told), ap (entries_of maker v.number) (sym told), own.0.2), own.1, own.2, own.3, own.4), sym same, below, told)
+            (λ j u _ e. r.each j u e) (λ j u _ e. (names_apart s r id v Waiting at is j u e, λ _ two eq. (r.apart id j v u at e).1 (ap has_ticket is) two eq))
+            (inr (id, w, here s.views id v w at, refl, ap (λ l. set l 0 none) home.1)) (inr (id, w, here s.views id v w at, inl told)),
+        (
+          (λ _. (x, refl, ((subst (λ l. IsPrefix v.seen l) (sym told) own.0.0, ap (entries_of maker v.number) told ∙ own.0.1), own.2 ∙ ap Some (sym home.3)))),
+          λ ne. absurd (ne hit),
+        ),
+      ))
+      (λ away. let h : ℕ = away.0 in let u : V = away.1 in let held = knows s r h u Inside away.2 away.3 in
+      let e : h ≡ id = (r.apart h id u v away.2 at).1 (ap has_ticket away.3) (ap has_ticket is) (held.1 ∙ same) in
+      absurd (out v.stage (ap is_inside is) (ap (λ (z : V). z.stage) (sym (same_view s.views h id u v away.2 at e)) ∙ away.3)))
+      r.slot)
+      (λ miss. (v, keeps, tt, unmoved s r id v at, ((λ hit. absurd (miss hit)), λ _. refl)))
+
+  abbrev pub Mem : ℕ → List E → ℕ × List E → Type 0
+  Mem made last m = IsMember story maker fixed 0 0 made k.seats first last fixed_value m
+
+  abbrev pub Mems : ℕ → List E → List (ℕ × List E) → Type 0
+  Mems made last ms = AreMembers story maker fixed 0 0 made k.seats first last fixed_value ms
+
+  member_on : (made : ℕ) (last last' : List E) (m : ℕ × List E) → IsPrefix last last' → entries_of maker m.0 last' ≡ entries_of maker m.0 last → Mem made last m → Mem made last' m
+  member_on made last last' m ext same h = (prefix_trans m.1 last last' h.0 ext, same ∙ h.1, h.2)
+
+  members_on : (made : ℕ) (last last' : List E) (ms : List (ℕ × List E)) → IsPrefix last last' → ((n : ℕ) → HasNumber ms n → entries_of maker n last' ≡ entries_of maker n last) → Mems made last ms → Mems made last' ms
+  members_on made last last' [] ext same h = tt
+  members_on made last last' (m ∷ ms) ext same h = (member_on made last last' m ext (same m.0 (inl refl)) h.0, members_on made last last' ms ext (λ n p. same n (inr p)) h.1)
+
+  -- the turn passes on, after entries that aren't of this seat
+  served : (next serving made : ℕ) (last last' : List E) (j : ℕ) (u : V) (a : Stage) → IsPrefix last last' → ((n : ℕ) → HasNumber (members_at a u) n → entries_of maker n last' ≡ entries_of maker n last) → (has_ticket a ≡ 1 → u.ticket ≢ serving)
+      → Knows story maker fixed next serving made k.seats first last fixed_value j u a → Knows story maker fixed next (serving + 1) made k.seats first last' fixed_value j u a
+  served next serving made last last' j u Maker ext same ne h = (h.0, h.1, h.2, h.3, h.4, prefix_trans u.seen last last' h.5 ext)
+  served next serving made last last' j u Outside ext same ne h = (member_on made last last' (u.number, u.seen) ext (same u.number (inl refl)) h.0, prefix_trans u.told last last' h.1 ext, h.2, h.3, h.4)
+  served next serving made last last' j u Waiting ext same ne h = let n = ne refl in let le = h.1 in
+      ((member_on made last last' (u.number, u.seen) ext (same u.number (inl refl)) h.0.0, prefix_trans u.told last last' h.0.1 ext, h.0.2, h.0.3, h.0.4), omega arith, h.2)
+  served next serving made last last' j u Inside ext same ne h = absurd (ne refl h.1)
+  served next serving made last last' j u Note ext same ne h = (prefix_trans u.seen last last' h.0 ext, h.1, h.2)
+  served next serving made last last' j u Closing ext same ne h = (h.0, members_on made last last' u.members ext same h.1, h.2)
+  served next serving made last last' j u Spent ext same ne h = h
+
+  pub pass_allowed : (n id : ℕ) (me : M) (x : S) → me.0.stage ≡ Inside → me.1 ≡ (0, Some x) ∷ [] → me.0.fixed ≡ Some (fixed x) → Adds maker me.0.number me.0.seen (story x)
+      → Allows K n id me 1 (λ y. (y + 1) % 2 ^ 64) (PassesTurn story maker fixed (step n 1 1 0 none) me)
+  pass_allowed n id me x is has same_fixed add s r wide at small = let v : V = me.0 in let ys : List E = held_history story maker fixed me.1 in let w : V = outside v ys in
+      let kn = knows s r id v Inside at is in let own = kn.0 in let its : ys ≡ story x = ap (held_history story maker fixed) has in
+      let more : Adds maker v.number r.last ys = subst (λ (z : List E × List E). Adds maker v.number z.0 z.1) (λ i. (kn.3 i, sym its i)) add in
+      let ext : IsPrefix r.last ys = (more.0, sym more.1) in let d = r.drawn in ⊎_elim
+      (λ home. absurd (home.4 id v at is))
+      (λ away. (
+        w,
+        gives,
+        tt,
+        moved s r id v w (set s.words 1 ((get_or s.words 1 0 + 1) % 2 ^ 64)) (homes_after s.homes me.1 gives) r.next (r.serving + 1) ys at
+            ((λ i. set (r.words i) 1 ((get_or (r.words i) 1 0 + 1) % 2 ^ 64)) ∙ ap (λ z. r.next % 2 ^ 64 ∷ z ∷ []) (mod-add-mod r.serving (2 ^ 64) 1))
+            (let q : has_ticket v.stage ≡ 1 = ap has_ticket is in omega arith) refl
+            (λ m le. let lt = own.0.2 in adds_none maker v.number m r.last ys (λ e. omega arith) more ∙ r.others m le)
+            ((prefix_refl ys, refl, own.0.2), prefix_trans v.told r.last ys own.1 ext, own.2, own.3, own.4)
+            (λ j u ne e. served r.next r.serving r.made r.last ys j u u.stage ext
+            (λ m p. adds_none maker v.number m r.last ys (λ same. ne (sym (names_apart s r id v Inside at is j u e m (inl (sym same)) p))) more)
+            (λ two same. ne (sym ((r.apart id j v u at e).1 (ap has_ticket is) two (kn.1 ∙ sym same))))
+            (r.each j u e))
+            (λ j u ne e. (names_apart s r id v Inside at is j u e, λ z _ _. absurd (omega arith)))
+            (inl (
+              x,
+              (λ i. homes_after (away.4 i) (has i) gives),
+              sym its,
+              ap (λ o. unwrap_or o fixed_value) (sym same_fixed ∙ own.2),
+              λ j u e. ⊎_elim (λ t. out u.stage (ap (λ (z : V). is_inside z.stage) (sym t.1)))
+                  (λ t ins. t.0 (sym ((r.apart id j v u at t.1).1 (ap has_ticket is) (ap has_ticket ins) (kn.1 ∙ sym ((knows s r j u Inside t.1 ins).1)))))
+                  (at_set s.views id j w u e),
+            ))
+            (inr (id, w, here s.views id v w at, inl refl)),
+        refl,
+      ))
+      r.slot
+
+  pub merge_allowed : (n id : ℕ) (me : M) → me.0.stage ≡ Outside → Allows K n id me 1 (λ x. x) (MergesTold story maker fixed (step n 1 0 0 none) me)
+  merge_allowed n id me is s r wide at small = let v : V = me.0 in let w : V = merged v in let own = knows s r id v Outside at is in
+      let a = longer_left v.seen v.told r.last own.0.0 own.1 in let b = longer_right v.seen v.told r.last own.0.0 own.1 in let c = longer_begins v.seen v.told r.last own.0.0 own.1 in
+      let same : entries_of maker v.number (longer v.seen v.told) ≡ entries_of maker v.number v.seen = entries_between maker v.number v.seen (longer v.seen v.told) r.last a c own.0.1 in (
+        w,
+        keeps,
+        tt,
+        moved s r id v w (set s.words 1 (get_or s.words 1 0)) s.homes r.next r.serving r.last at (same_word s r) refl refl r.others
+            (subst (λ (z : Stage). Knows story maker fixed r.next r.serving r.made k.seats first r.last fixed_value id w z) (sym is) ((c, own.0.1 ∙ sym same, own.0.2), prefix_nil r.last, own.2, own.3, own.4))
+            (λ j u _ e. r.each j u e)
+            (λ j u ne e. (subst (λ (z : Stage). (m : ℕ) → HasNumber (members_at z w) m → HasNumber (members_of u) m → id ≡ j) (sym is) (names_apart s r id v Outside at is j u e), (r.apart id j v u at e).1))
+            (slot_stays s id v w (set s.words 1 (get_or s.words 1 0)) r.last at (ap is_inside is) (ap is_inside is) r.slot)
+            (witness_stays s.views id v w r.last at
+            (λ e. subst (λ (z : Stage). AnyHasSeen (members_at z w) r.last) (sym is) (⊎_elim (λ whole. inl (prefix_same v.seen (longer v.seen v.told) r.last a c whole)) (λ none. absurd none) (subst (λ (z : Stage). AnyHasSeen (members_at z v) r.last) is e)))
+            r.witnessed),
+        (refl, b, (a, same), own.4 ∙ sym own.2),
+      )
+
+  -- the same, for a seat that has just put its state into the slot
+  pub hands_on : (n id : ℕ) (me old : M) (x : S) → me ≡ (old.0, (0, Some x) ∷ rest old.1) → old.0.stage ≡ Inside → old.1 ≡ (0, None) ∷ [] → old.0.fixed ≡ Some (fixed x) → Adds maker old.0.number old.0.seen (story x)
+      → Allows K n id me 1 (λ y. (y + 1) % 2 ^ 64) (PassesTurn story maker fixed (step n 1 1 0 none) me)
+  hands_on n id me old x is st has same_fixed add = let P : M → Type 0 = λ z. Allows K n id z 1 (λ y. (y + 1) % 2 ^ 64) (PassesTurn story maker fixed (step n 1 1 0 none) z) in
+      subst P (sym is) (pass_allowed n id (old.0, (0, Some x) ∷ rest old.1) x st (ap (λ l. (0, Some x) ∷ rest l) has) same_fixed add)
+
+first_held : {A : Type 0} (l old : List (ℕ × A)) (x : A) → l ≡ (0, x) ∷ old → (y : A) × (l ≡ (0, y) ∷ rest l)
+first_held l old x e = (x, e ∙ ap (λ t. (0, x) ∷ t) (sym (ap rest e)))
+
+-- a seat that is served has the slot
+pub served_slot : {S E F : Type 0} (story : S → List E) (maker : E → ℕ) (fixed : S → F) (n : ℕ) (me : Me (Option S) (View E F)) (r ticket : ℕ) (me' : Me (Option S) (View E F)) → TakesTurn story maker fixed (step n 1 0 0 none) me r me'
+    → ticket ≡ me.0.ticket % 2 ^ 64 → r ≡ ticket → (y : Option S) × (me'.1 ≡ (0, y) ∷ rest me'.1)
+served_slot story maker fixed n me r ticket me' told is hit = let got = told.0 (hit ∙ is) in first_held me'.1 me.1 (Some got.0) (ap (λ m. m.1) got.1)

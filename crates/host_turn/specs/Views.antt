@@ -1,0 +1,93 @@
+-- What a seat's view says, and how it changes.
+use Rattle.std.specs.Prelude.{◌≡◌, ◌⊎◌, ℕ, ◌+◌, ◌-◌, List, [], ◌∷◌, ◌++◌, Option, Some, None}
+use Rattle.host_turn.specs.declared.view.View.{View}
+use Rattle.host_turn.specs.declared.view.Stage.{Stage}
+use Rattle.host_turn.specs.declared.view.Stage.TheVariants.{Maker, Outside, Waiting, Inside, Note, Closing, Spent}
+use Rattle.host_turn.specs.History.{longer}
+
+-- the values of a function on a list, added up
+abbrev pub total : {A : Type 0} → (A → ℕ) → List A → ℕ
+total f [] = 0
+total f (x ∷ xs) = f x + total f xs
+
+-- 1 where the stage has a ticket
+abbrev pub has_ticket : Stage → ℕ
+has_ticket Waiting = 1
+has_ticket Inside = 1
+has_ticket _ = 0
+
+-- 1 where the stage can take in another seat for good
+abbrev pub is_at_rest : Stage → ℕ
+is_at_rest Outside = 1
+is_at_rest Closing = 1
+is_at_rest _ = 0
+
+-- a member is a seat's number with what it has seen; one of them has this number
+abbrev pub HasNumber : {E : Type 0} → List (ℕ × List E) → ℕ → Type 0
+HasNumber [] n = ⊥
+HasNumber (m ∷ ms) n = (m.0 ≡ n) ⊎ HasNumber ms n
+
+-- one of the members has seen just this history
+abbrev pub AnyHasSeen : {E : Type 0} → List (ℕ × List E) → List E → Type 0
+AnyHasSeen [] xs = ⊥
+AnyHasSeen (m ∷ ms) xs = (m.1 ≡ xs) ⊎ AnyHasSeen ms xs
+
+module _ {E F : Type 0} where
+  -- how many tickets the view has
+  abbrev pub tickets_of : View E F → ℕ
+  tickets_of v = has_ticket v.stage
+
+  -- how many of the book's seats the view stands for
+  abbrev pub share_of : View E F → ℕ
+  share_of v = v.share
+
+  -- the members that the view stands for, by its stage
+  abbrev pub members_at : Stage → View E F → List (ℕ × List E)
+  members_at Outside v = (v.number, v.seen) ∷ []
+  members_at Waiting v = (v.number, v.seen) ∷ []
+  members_at Inside v = (v.number, v.seen) ∷ []
+  members_at Closing v = v.members
+  members_at _ v = []
+
+  abbrev pub members_of : View E F → List (ℕ × List E)
+  members_of v = members_at v.stage v
+
+  -- it has drawn the ticket t
+  abbrev pub waiting : View E F → ℕ → View E F
+  waiting v t = record v { stage = Waiting; ticket = t }
+
+  -- it has the turn, and with it the whole history xs
+  abbrev pub inside : View E F → List E → View E F
+  inside v xs = record v { stage = Inside; seen = xs }
+
+  -- it has left the history xs
+  abbrev pub outside : View E F → List E → View E F
+  outside v xs = record v { stage = Outside; seen = xs }
+
+  -- a note of what the view has seen
+  abbrev pub note_of : View E F → View E F
+  note_of v = record { stage = Note; number = 0; ticket = 0; share = 0; fixed = v.fixed; seen = v.seen; told = []; told_fixed = v.fixed; members = [] }
+
+  -- it has taken in a note
+  abbrev pub told : View E F → View E F → View E F
+  told v note = record v { told = note.seen; told_fixed = note.fixed }
+
+  -- it has seen what it was told
+  abbrev pub merged : View E F → View E F
+  merged v = record v { seen = longer v.seen v.told; told = [] }
+
+  -- the maker, after it has made the next seat
+  abbrev pub after_making : View E F → View E F
+  after_making v = record v { number = v.number + 1; share = v.share - 1 }
+
+  -- the seat that the maker makes
+  abbrev pub new_seat : View E F → View E F
+  new_seat v = record { stage = Outside; number = v.number; ticket = 0; share = 1; fixed = v.fixed; seen = v.seen; told = []; told_fixed = v.fixed; members = [] }
+
+  -- it has taken in another seat for good
+  abbrev pub gathered : View E F → View E F → View E F
+  gathered v w = record { stage = Closing; number = 0; ticket = 0; share = v.share + w.share; fixed = v.fixed; seen = []; told = []; told_fixed = v.fixed; members = members_of w ++ members_of v }
+
+  -- it was taken in
+  abbrev pub spent : View E F
+  spent = record { stage = Spent; number = 0; ticket = 0; share = 0; fixed = None; seen = []; told = []; told_fixed = None; members = [] }

@@ -1,0 +1,229 @@
+//! The book: a state behind a ticket lock.
+ghost use Rattle.std.specs.Prelude.{◌≡◌, ◌⊎◌, ℕ, ◌+◌, ◌<◌, ◌≤◌, Some, [], ◌∷◌, ◌++◌, map, drop, length, All, IfOk, IfErr, MatchOption, vec_len, vec_capacity};
+ghost use mathlib.Core.List.{IsPrefix};
+ghost use Rattle.host_turn.specs.History.{entries_of, Adds, Continues, longer};
+
+use crate::rule::{Opening, TurnRule};
+use crate::seat::BookSeat;
+use crate::steps::{DrawTicket, GatherSeat, MakeSeat, MergeTold, PassTurn, TakeTurn, TellSeen};
+use crate::story::Story;
+use crate::view::View;
+use atomic_table::{Refused, Seat, Table};
+use std::alloc::{AllocFailed, Global};
+use std::snapshot::Snapshot;
+use std::sync::Wait;
+use std::thread;
+
+// Indexes of the words. Both count modulo 2^64.
+const NEXT: usize = 0;
+const SERVING: usize = 1;
+
+/// A state behind a ticket lock. Its seats take turns, and whoever has the turn has the state.
+///
+/// A book may be shared by threads where its state may be sent. Where the state may be dropped, so may the book.
+#[derive(Drop)]
+pub struct Book<S: Story> {
+    pub(crate) table: Table<Option<S>, View<S::Entry, S::Fixed>, Opening<S>, TurnRule<S>, Global>,
+    ghost sized: { (table.shared.table_id.words ≡ 2) × (table.shared.table_id.slots ≡ 1) },
+}
+
+/// There was no memory. The state comes back.
+#[derive(Drop)]
+pub struct NoBook<S> {
+    pub state: S,
+}
+
+impl<S: Story> Book<S> {
+    ghost use Rattle.host_turn.specs.Seats.{IsMaker, IsSeatOf, IsOutside, IsWaiting, IsInside, IsSameSeat, IsSeatOutside, IsNewSeat, AreNewSeats, HasGathered, IsSeenBySome, member_of, number, seen, fixed_part, own_entries, book_id, opening_of, seat_count};
+
+    /// A book with its seats, numbered from 0 by their places. It has `NoBook` for an answer only for want of memory.
+    pub fn new(
+        alloc: Global,
+        state: S,
+        seats: u32,
+    ) -> Result<(Book<S>, Vec<BookSeat<S>>), NoBook<S>>
+        requires some { 0 < seats }
+        requires fresh { (n : ℕ) → n < seats → entries_of S.maker n (S.story state) ≡ [] }
+        ensures book { IfOk result (λ r. (seat_count r.0 ≡ seats) × (opening_of r.0 ≡ state)) }
+        ensures seats { IfOk result (λ r. (vec_len r.1 ≡ seats) × AreNewSeats S.story S.fixed (book_id r.0) state r.1.items) }
+        ensures none { IfErr result (λ e. e.state ≡ state) }
+    {
+        let Ok(mut all) = Vec::with_capacity(alloc, seats as usize) else {
+            return Err(NoBook { state });
+        };
+        let about = Opening {
+            state: Snapshot::of(&state),
+            seats,
+        };
+        let mut slots = Vec::new(alloc);
+        if let Err(AllocFailed { value }) = slots.push(Some(state)) {
+            slots.destroy_empty();
+            return Err(NoBook {
+                state: value.unwrap(),
+            });
+        }
+        match Table::new(alloc, &[0, 0], slots, &about) {
+            Ok((table, mut maker)) => {
+                let book = Book { table };
+                book.make_seats(&mut maker, seats, &mut all);
+                Ok((book, all))
+            }
+            Err(Refused { mut slots }) => {
+                let state = slots.pop().unwrap().unwrap();
+                slots.destroy_empty();
+                Err(NoBook { state })
+            }
+        }
+    }
+
+    fn make_seats(
+        &self,
+        maker: &mut Seat<Option<S>, View<S::Entry, S::Fixed>>,
+        seats: u32,
+        all: &mut Vec<BookSeat<S>>,
+    )
+        requires maker { IsMaker S.story S.fixed self.now seats 0 maker.old }
+        requires room { (all.old.items ≡ []) × (seats ≤ vec_capacity all.old) }
+        ensures count { vec_len all.new ≡ seats }
+        ensures seats { AreNewSeats S.story S.fixed (book_id self.now) (opening_of self.now) all.new.items }
+    {
+        for _ in 0..seats {
+            let seat = self.table.shared.split_seat::<MakeSeat>(maker);
+            all.push_reserved(BookSeat { seat });
+        }
+    }
+
+    /// Takes the last of the seats that `new` made, the one with the greatest number.
+    pub fn hand_out(&self, seats: &mut Vec<BookSeat<S>>) -> BookSeat<S>
+        requires { (0 < vec_len seats.old) × AreNewSeats S.story S.fixed (book_id self.now) (opening_of self.now) seats.old.items }
+        ensures seat { IsNewSeat S.story S.fixed (book_id self.now) (opening_of self.now) (vec_len seats.new) result }
+        ensures left { AreNewSeats S.story S.fixed (book_id self.now) (opening_of self.now) seats.new.items }
+        ensures count { (vec_len seats.old ≡ vec_len seats.new + 1) × (vec_capacity seats.new ≡ vec_capacity seats.old) }
+    {
+        seats.pop().unwrap()
+    }
+
+    /// Waits for the turn, and takes the state. Its history begins with all that the seat has seen, and has no entries with the seat's number but the seat's own.
+    pub fn enter<R: Wait>(&self, rt: &R, seat: &mut BookSeat<S>) -> S
+        requires { IsSeatOf self.now seat.old × IsOutside seat.old }
+        ensures seat { IsSameSeat seat.old seat.new × IsInside seat.new }
+        ensures story { S.story result ≡ seen seat.new }
+        ensures later { Continues S.maker (number seat.old) (seen seat.old) (seen seat.new) }
+        ensures fixed_part { fixed_part seat.new ≡ Some (S.fixed result) }
+    {
+        let ticket = self.draw_ticket(seat);
+        for _ in rt.forever() {
+            if let Some(state) = self.try_turn(seat, ticket) {
+                return state;
+            }
+            thread::yield_now();
+        }
+        unreachable!()
+    }
+
+    /// The same, and the history has at least n entries. It looks under the turn, and enters again while there are fewer.
+    pub fn enter_past<R: Wait>(&self, rt: &R, seat: &mut BookSeat<S>, n: u64) -> S
+        requires { IsSeatOf self.now seat.old × IsOutside seat.old }
+        ensures seat { IsSameSeat seat.old seat.new × IsInside seat.new }
+        ensures story { S.story result ≡ seen seat.new }
+        ensures later { Continues S.maker (number seat.old) (seen seat.old) (seen seat.new) }
+        ensures fixed_part { fixed_part seat.new ≡ Some (S.fixed result) }
+        ensures past { n ≤ length (S.story result) }
+    {
+        for _ in rt.forever() {
+            let state = self.enter(rt, seat);
+            if state.length() >= n {
+                return state;
+            }
+            self.leave(seat, state);
+            thread::yield_now();
+        }
+        unreachable!()
+    }
+
+    fn draw_ticket(&self, seat: &mut BookSeat<S>) -> u64
+        requires { IsSeatOf self.now seat.old × IsOutside seat.old }
+        ensures { IsSameSeat seat.old seat.new × IsWaiting result seat.new × (seen seat.new ≡ seen seat.old) }
+    {
+        let shared = &self.table.shared;
+        shared.fetch_add::<DrawTicket<S>>(&mut seat.seat, NEXT, 1)
+    }
+
+    // The state, where the ticket is served.
+    fn try_turn(&self, seat: &mut BookSeat<S>, ticket: u64) -> Option<S>
+        requires { IsSeatOf self.now seat.old × IsWaiting ticket seat.old }
+        ensures same { IsSameSeat seat.old seat.new }
+        ensures state { MatchOption result
+            (IsWaiting ticket seat.new × (seen seat.new ≡ seen seat.old))
+            (λ x. IsInside seat.new × (S.story x ≡ seen seat.new) × Continues S.maker (number seat.old) (seen seat.old) (seen seat.new) × (fixed_part seat.new ≡ Some (S.fixed x))) }
+    {
+        let shared = &self.table.shared;
+        if shared.load::<TakeTurn<S>>(&mut seat.seat, SERVING) == ticket {
+            shared.exchange(&mut seat.seat, 0, None)
+        } else {
+            None
+        }
+    }
+
+    /// Hands the state back, and the turn on. The history may have grown by entries with the seat's number, which become the last of its own.
+    pub fn leave(&self, seat: &mut BookSeat<S>, state: S)
+        requires seat { IsSeatOf self.now seat.old × IsInside seat.old }
+        requires story { Adds S.maker (number seat.old) (seen seat.old) (S.story state) }
+        requires fixed_part { fixed_part seat.old ≡ Some (S.fixed state) }
+        ensures seat { IsSameSeat seat.old seat.new × IsOutside seat.new }
+        ensures story { seen seat.new ≡ S.story state }
+        ensures own { own_entries S.maker seat.new ≡ own_entries S.maker seat.old ++ drop (length (seen seat.old)) (S.story state) }
+    {
+        let shared = &self.table.shared;
+        let nothing = shared.exchange(&mut seat.seat, 0, Some(state));
+        let None = nothing else { unreachable!() };
+        shared.fetch_add::<PassTurn<S>>(&mut seat.seat, SERVING, 1);
+    }
+
+    /// Tells `to` what `from` has seen. Afterwards `to` has seen the longer of both, each of which begins it. It waits for nobody.
+    pub fn meet(&self, from: &mut BookSeat<S>, to: &mut BookSeat<S>)
+        requires from { IsSeatOf self.now from.old × IsOutside from.old }
+        requires to { IsSeatOf self.now to.old × IsOutside to.old }
+        ensures from { IsSameSeat from.old from.new × IsOutside from.new × (seen from.new ≡ seen from.old) }
+        ensures to { IsSameSeat to.old to.new × IsOutside to.new }
+        ensures told { IsPrefix (seen from.old) (seen to.new) }
+        ensures later { Continues S.maker (number to.old) (seen to.old) (seen to.new) }
+        ensures seen { seen to.new ≡ longer (seen to.old) (seen from.old) }
+        ensures fixed_part { fixed_part from.old ≡ fixed_part to.old }
+    {
+        let shared = &self.table.shared;
+        let note = shared.split_seat::<TellSeen>(&mut from.seat);
+        shared.join_seat::<TellSeen>(&mut to.seat, note);
+        shared.load::<MergeTold<S>>(&mut to.seat, SERVING);
+    }
+
+    /// Ends the turns, and gives the state with the one history. Every seat has seen a beginning of it, and each seat's entries in it are the seat's own, each once and in order.
+    pub fn close(self, mut seats: Vec<BookSeat<S>>) -> S
+        requires all { (vec_len seats ≡ seat_count self) × (0 < vec_len seats) }
+        requires outside { All (λ q. IsSeatOutside self q) seats.items }
+        ensures seats { All (λ q. Continues S.maker (number q) (seen q) (S.story result)) seats.items }
+        ensures others { (n : ℕ) → seat_count self ≤ n → entries_of S.maker n (S.story result) ≡ entries_of S.maker n (S.story (opening_of self)) }
+        ensures whole { (S.story result ≡ S.story (opening_of self)) ⊎ IsSeenBySome seats.items (S.story result) }
+        ensures fixed_part { S.fixed result ≡ S.fixed (opening_of self) }
+    {
+        let mut base = seats.pop().unwrap();
+        self.gather_seats(&mut base, seats);
+        let Book { table } = self;
+        let mut closed = table.close_with(base.seat);
+        let slot = closed.take(0);
+        closed.free();
+        slot.unwrap()
+    }
+
+    fn gather_seats(&self, base: &mut BookSeat<S>, mut seats: Vec<BookSeat<S>>)
+        requires base { IsSeatOutside self.now base.old }
+        requires seats { All (λ q. IsSeatOutside self.now q) seats.items }
+        ensures { HasGathered self.now base.new (vec_len seats + 1) (map member_of seats.items ++ member_of base.old ∷ []) }
+    {
+        while let Some(BookSeat { seat }) = seats.pop() {
+            self.table
+                .shared
+                .join_seat::<GatherSeat>(&mut base.seat, seat);
+        }
+    }
+}
