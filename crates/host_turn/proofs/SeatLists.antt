@@ -1,18 +1,18 @@
 -- Lists of seats.
-use Rattle.std.proofs.Common.{◌≡◌, ◌⊎◌, ℕ, zero, suc, ◌+◌, ◌-◌, ◌≤◌, List, [], ◌∷◌, ◌++◌, length, map, sym, refl, ap, ap₂, subst, ◌∙◌, inl, inr, ⊎_elim, length-append, arith}
+use Rattle.std.proofs.Common.{◌≡◌, ◌⊎◌, ℕ, zero, suc, ◌+◌, ◌-◌, ◌<◌, ◌≢◌, List, [], ◌∷◌, ◌++◌, length, map, sym, refl, ap, ap₂, subst, ◌∙◌, inl, inr, ⊎_elim, length-append, arith}
 use Rattle.std.specs.Prelude.{Option, Some, None}
 use Rattle.std.specs.Option.{unwrap_or, IsSome, option_to_list}
 use Rattle.std.specs.List.{slice_get, All}
-use Rattle.std.proofs.lemmas.List.Elements.{All-nil, All-cons}
+use Rattle.std.proofs.lemmas.List.Elements.{All-nil, All-cons, All-head, All-tail}
 use Rattle.host_turn.specs.declared.rule.Opening.{Opening}
 use Rattle.host_turn.specs.declared.book.Book.{Book}
 use Rattle.host_turn.specs.declared.seat.BookSeat.{BookSeat}
 use Rattle.host_turn.specs.declared.view.View.{View}
 use Rattle.host_turn.specs.declared.view.Stage.{Stage}
 use Rattle.host_turn.specs.History.{entries_of, Continues}
-use Rattle.host_turn.specs.Views.{AnyHasSeen, after_making, new_seat, gathered, is_at_rest, members_at, members_of}
+use Rattle.host_turn.specs.Views.{HasNumber, AnyHasSeen, view_after_making, new_seat_view, gathered_view, is_at_rest, members_at, members_of}
 use Rattle.host_turn.specs.Rule.{OneHistory}
-use Rattle.host_turn.specs.Seats.{IsNewSeat, AreNewSeats, number, seen, IsSeenBySome, member_of, IsMaker, IsSeatOutside, HasGathered, book_id, opening_of, seat_count}
+use Rattle.host_turn.specs.Seats.{IsNewSeat, AreNewSeats, number, seen_by, IsSeenBySome, member_of, IsMaker, IsSeatOutside, HasGathered, book_id, opening_of, seat_count}
 use Rattle.atomic_table.specs.Seated.{TableId}
 use mathlib.Core.Option.{some, some-injective}
 use lib.ListN.{get_elem?}
@@ -70,8 +70,8 @@ module _ {S E F : Type 0} (story : S → List E) (fixed : S → F) (b : TableId)
 
 module _ {S E F : Type 0} (story : S → List E) (fixed : S → F) (b : Book S E F) where
   -- the maker makes a seat
-  pub seat_made : (left n : ℕ) (old new made : Seat (Option S) (View E F)) → IsMaker story fixed b left n old → new.table_id ≡ old.table_id → new.me ≡ (after_making old.me.0, old.me.1)
-      → made.table_id ≡ old.table_id → made.me ≡ (new_seat old.me.0, []) → IsMaker story fixed b (left - 1) (n + 1) new × IsNewSeat story fixed (book_id b) (opening_of b) n record { seat = made }
+  pub seat_made : (left n : ℕ) (old new made : Seat (Option S) (View E F)) → IsMaker story fixed b left n old → new.table_id ≡ old.table_id → new.me ≡ (view_after_making old.me.0, old.me.1)
+      → made.table_id ≡ old.table_id → made.me ≡ (new_seat_view old.me.0, []) → IsMaker story fixed b (left - 1) (n + 1) new × IsNewSeat story fixed (book_id b) (opening_of b) n record { seat = made }
   seat_made left n old new made is a c d e = (
     (
       a ∙ is.0,
@@ -93,7 +93,7 @@ module _ {S E F : Type 0} (story : S → List E) (fixed : S → F) (b : Book S E
 module _ {S E F : Type 0} (b : Book S E F) where
   -- a seat takes in another
   pub one_more_gathered : (n : ℕ) (ms : List (ℕ × List E)) (base new q : BookSeat S E F) → HasGathered b base n ms → IsSeatOutside b q → new.seat.table_id ≡ base.seat.table_id
-      → new.seat.me ≡ (gathered base.seat.me.0 q.seat.me.0, base.seat.me.1) → HasGathered b new (n + 1) (member_of q ∷ ms)
+      → new.seat.me ≡ (gathered_view base.seat.me.0 q.seat.me.0, base.seat.me.1) → HasGathered b new (n + 1) (member_of q ∷ ms)
   one_more_gathered n ms base new q is out t m = (
     t ∙ is.0,
     ap (λ z. is_at_rest z.0.stage) m,
@@ -104,13 +104,21 @@ module _ {S E F : Type 0} (b : Book S E F) where
 
 module _ {S E F : Type 0} (story : S → List E) (maker : E → ℕ) (fixed : S → F) (k : Opening S) where
   -- what the members know, the seats know
-  pub whole_of_members : (made : ℕ) (xs : List E) (qs : List (BookSeat S E F)) → Mems story maker fixed k made xs (map member_of qs) → All (λ q. Continues maker (number q) (seen q) xs) qs
-  whole_of_members made xs [] h = All-nil (λ q. Continues maker (number q) (seen q) xs)
-  whole_of_members made xs (q ∷ qs) h = All-cons (λ q. Continues maker (number q) (seen q) xs) q qs (h.0.0, h.0.1) (whole_of_members made xs qs h.1)
+  pub whole_of_members : (made : ℕ) (xs : List E) (qs : List (BookSeat S E F)) → Mems story maker fixed k made xs (map member_of qs) → All (λ q. Continues maker (number q) (seen_by q) xs) qs
+  whole_of_members made xs [] h = All-nil (λ q. Continues maker (number q) (seen_by q) xs)
+  whole_of_members made xs (q ∷ qs) h = All-cons (λ q. Continues maker (number q) (seen_by q) xs) q qs (h.0.0, h.0.1) (whole_of_members made xs qs h.1)
 
-seen_by : {S E F : Type 0} (qs : List (BookSeat S E F)) (xs : List E) → AnyHasSeen (map member_of qs) xs → IsSeenBySome qs xs
-seen_by [] xs p = absurd p
-seen_by (q ∷ qs) xs p = ⊎_elim (λ e. (0, q, refl, e)) (λ t. let r = seen_by qs xs t in (suc r.0, r.1, r.2, r.3)) p
+  pub numbers_below : (made : ℕ) (xs : List E) (qs : List (BookSeat S E F)) → Mems story maker fixed k made xs (map member_of qs) → All (λ q. number q < made) qs
+  numbers_below made xs [] h = All-nil (λ q. number q < made)
+  numbers_below made xs (q ∷ qs) h = All-cons (λ q. number q < made) q qs h.0.2 (numbers_below made xs qs h.1)
+
+not_among : {S E F : Type 0} (n : ℕ) (qs : List (BookSeat S E F)) → All (λ q. number q ≢ n) qs → HasNumber (map member_of qs) n → ⊥
+not_among n [] free p = absurd p
+not_among n (q ∷ qs) free p = ⊎_elim (λ e. All-head (λ q. number q ≢ n) q qs free e) (λ t. not_among n qs (All-tail (λ q. number q ≢ n) q qs free) t) p
+
+some_seat_saw : {S E F : Type 0} (qs : List (BookSeat S E F)) (xs : List E) → AnyHasSeen (map member_of qs) xs → IsSeenBySome qs xs
+some_seat_saw [] xs p = absurd p
+some_seat_saw (q ∷ qs) xs p = ⊎_elim (λ e. (0, q, refl, e)) (λ t. let r = some_seat_saw qs xs t in (suc r.0, r.1, r.2, r.3)) p
 
 map-snoc : {A B : Type 0} (f : A → B) (xs : List A) (y : A) → map f (xs ++ y ∷ []) ≡ map f xs ++ f y ∷ []
 map-snoc f [] y = refl
@@ -120,14 +128,15 @@ module _ {S E F : Type 0} (story : S → List E) (maker : E → ℕ) (fixed : S 
   -- what the last seat tells, once it has taken in all others
   pub closing : (base q : BookSeat S E F) (qs all : List (BookSeat S E F)) (ws : List ℕ) (xs : List (Option S)) (slot : Option S) → all ≡ qs ++ q ∷ [] → HasGathered b base (seat_count b) (map member_of qs ++ member_of q ∷ [])
       → Final (Seen (OneHistory story maker fixed b.table.shared.key) base.seat.id base.seat.me.0) ws xs → get_elem? xs 0 ≡ some slot
-      → (x : S) × (slot ≡ Some x) × All (λ q. Continues maker (number q) (seen q) (story x)) all × ((n : ℕ) → seat_count b ≤ n → entries_of maker n (story x) ≡ entries_of maker n (story (opening_of b))) × (fixed x ≡ fixed (opening_of b))
-      × ((story x ≡ story (opening_of b)) ⊎ IsSeenBySome all (story x))
+      → (x : S) × (slot ≡ Some x) × All (λ q. Continues maker (number q) (seen_by q) (story x)) all × ((n : ℕ) → All (λ q. number q ≢ n) all → entries_of maker n (story x) ≡ entries_of maker n (story (opening_of b))) × (fixed x ≡ fixed (opening_of b))
+      × All (λ q. number q < seat_count b) all × ((story x ≡ story (opening_of b)) ⊎ IsSeenBySome all (story x))
   closing base q qs all ws xs slot is has f at = let k = b.table.shared.key in let e = ends story maker fixed k base.seat.id base.seat.me.0 ws xs has.1 has.3 f in let x : S = e.0 in
       let names = has.4 ∙ (sym (map-snoc member_of qs q) ∙ ap (map member_of) (sym is)) in (
         x,
         some-injective slot (Some x) (sym at ∙ e.1),
         whole_of_members story maker fixed k k.seats (story x) all (subst (λ (z : List (ℕ × List E)). Mems story maker fixed k k.seats (story x) z) names e.3),
-        e.4,
+        (λ n free. e.4 n (λ p. not_among n all free (subst (λ (z : List (ℕ × List E)). HasNumber z n) names p))),
         e.2,
-        ⊎_elim (λ t. inl t) (λ t. inr (seen_by all (story x) (subst (λ (z : List (ℕ × List E)). AnyHasSeen z (story x)) names t))) e.5,
+        numbers_below story maker fixed k k.seats (story x) all (subst (λ (z : List (ℕ × List E)). Mems story maker fixed k k.seats (story x) z) names e.3),
+        ⊎_elim (λ t. inl t) (λ t. inr (some_seat_saw all (story x) (subst (λ (z : List (ℕ × List E)). AnyHasSeen z (story x)) names t))) e.5,
       )

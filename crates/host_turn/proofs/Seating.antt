@@ -13,7 +13,7 @@ use Rattle.host_turn.specs.declared.view.View.{View}
 use Rattle.host_turn.specs.declared.view.Stage.{Stage}
 use Rattle.host_turn.specs.declared.view.Stage.TheVariants.{Maker, Outside, Waiting, Inside, Note, Closing, Spent}
 use Rattle.host_turn.specs.History.{entries_of}
-use Rattle.host_turn.specs.Views.{total, has_ticket, is_at_rest, HasNumber, AnyHasSeen, tickets_of, share_of, note_of, told, after_making, new_seat, gathered, spent, members_at, members_of}
+use Rattle.host_turn.specs.Views.{total, has_ticket, is_at_rest, HasNumber, AnyHasSeen, tickets_of, share_of, note_view, told_view, view_after_making, new_seat_view, gathered_view, spent_view, members_at, members_of}
 use Rattle.host_turn.specs.Rule.{Knows, Apart, AtHome, Away, OneHistory, first_view}
 use Rattle.host_turn.proofs.Totals.{total_set, total_snoc, total_two}
 use Rattle.host_turn.proofs.Histories.{prefix_refl, prefix_nil}
@@ -41,6 +41,18 @@ module _ {A : Type 0} where
 has_number_append : {E : Type 0} (xs ys : List (ℕ × List E)) (n : ℕ) → HasNumber (xs ++ ys) n → HasNumber xs n ⊎ HasNumber ys n
 has_number_append [] ys n p = inr p
 has_number_append (x ∷ xs) ys n p = ⊎_elim (λ t. inl (inl t)) (λ t. ⊎_elim (λ q. inl (inr q)) (λ q. inr q) (has_number_append xs ys n t)) p
+
+has_number_left : {E : Type 0} (xs ys : List (ℕ × List E)) (n : ℕ) → HasNumber xs n → HasNumber (xs ++ ys) n
+has_number_left [] ys n p = absurd p
+has_number_left (x ∷ xs) ys n p = ⊎_elim (λ t. inl t) (λ t. inr (has_number_left xs ys n t)) p
+
+has_number_right : {E : Type 0} (xs ys : List (ℕ × List E)) (n : ℕ) → HasNumber ys n → HasNumber (xs ++ ys) n
+has_number_right [] ys n p = p
+has_number_right (x ∷ xs) ys n p = inr (has_number_right xs ys n p)
+
+has_number_some : {E : Type 0} (xs : List (ℕ × List E)) (n : ℕ) → HasNumber xs n → 0 < length xs
+has_number_some [] n p = absurd p
+has_number_some (x ∷ xs) n p = omega arith
 
 any_seen_left : {E : Type 0} (xs ys : List (ℕ × List E)) (l : List E) → AnyHasSeen xs l → AnyHasSeen (xs ++ ys) l
 any_seen_left [] ys l p = absurd p
@@ -88,7 +100,7 @@ module _ {S E F : Type 0} (story : S → List E) (maker : E → ℕ) (fixed : S 
         shares = (let e : k.seats + 0 ≡ k.seats = omega arith in e);
         few = few;
         within = omega arith;
-        others = λ n le. refl;
+        others = λ n none. refl;
         each = λ j u e. let t = only j u e in subst (λ (z : ℕ × V). Kn 0 0 0 first z.0 z.1 z.1.stage) (λ i. (sym t.0 i, t.1 i)) (refl, refl, (let p : k.seats + 0 ≡ k.seats = omega arith in p), refl, refl, prefix_refl first);
         apart = λ i j a b ea eb. let e : i ≡ j = (only i a ea).0 ∙ sym (only j b eb).0 in ((λ _ _ _. e), λ _ _ _. e);
         witnessed = inl refl;
@@ -111,10 +123,10 @@ module _ {S E F : Type 0} (story : S → List E) (maker : E → ℕ) (fixed : S 
       → Kn r.next r.serving made' r.last id left left.stage → Kn r.next r.serving made' r.last (length (set s.views id left)) right right.stage
       → ((j : ℕ) (u : V) → j ≢ id → get_elem? s.views j ≡ some u → Kn r.next r.serving made' r.last j u u.stage) → ((j : ℕ) (u : V) → j ≢ id → get_elem? s.views j ≡ some u → Ap id left j u)
       → ((j : ℕ) (u : V) → get_elem? (set s.views id left) j ≡ some u → Ap (length (set s.views id left)) right j u)
-      → (AnyHasSeen (members_of v) r.last → AnyHasSeen (members_of left) r.last)
+      → (AnyHasSeen (members_of v) r.last → AnyHasSeen (members_of left) r.last) → ((n : ℕ) → HasNumber (members_of v) n → HasNumber (members_of left) n)
       → K record { words = s.words; homes = s.homes; views = set s.views id left ++ right ∷ [] }
   unfolding Slot
-  cut s r id v left right made' at more within share q p a b c mine new rest apart far still =
+  cut s r id v left right made' at more within share q p a b c mine new rest apart far still names =
       let vs : List V = set s.views id left in let n : ℕ = length vs in
       let tq = total_set tickets_of s.views id v left at in let tp = total_set share_of s.views id v left at in let sq = total_snoc tickets_of vs right in let sp = total_snoc share_of vs right in let d = r.drawn in
       let each : (j : ℕ) (u : V) → get_elem? vs j ≡ some u → Kn r.next r.serving made' r.last j u u.stage = λ j u e.
@@ -132,7 +144,7 @@ module _ {S E F : Type 0} (story : S → List E) (maker : E → ℕ) (fixed : S 
         shares = (let e : total share_of (vs ++ right ∷ []) ≡ total share_of s.views = omega arith in e) ∙ r.shares;
         few = r.few;
         within = within;
-        others = λ i le. r.others i (omega arith);
+        others = λ i none. r.others i (m.free_before story maker fixed k s.views id v left i at (names i) (λ j u e. none j u (longer_at vs (right ∷ []) j u e)));
         each = λ j u e. ⊎_elim (λ t. each j u t) (λ t. subst (λ (z : ℕ × V). Kn r.next r.serving made' r.last z.0 z.1 z.1.stage) (λ i. (sym t.0 i, t.1 i)) new) (at_snoc vs right u j e);
         apart = λ i j x y ex ey. ⊎_elim
             (λ t. ⊎_elim (λ t'. near i j x y t t') (λ t'. m.apart_sym story maker fixed k j y i x (subst (λ (z : ℕ × V). Ap z.0 z.1 i x) (λ l. (sym t'.0 l, t'.1 l)) (far i x t))) (at_snoc vs right y j ey))
@@ -142,10 +154,10 @@ module _ {S E F : Type 0} (story : S → List E) (maker : E → ℕ) (fixed : S 
         slot = slot_longer s.words s.homes vs right r.last c (m.slot_stays story maker fixed k s id v left s.words r.last at a b r.slot);
       }
 
-  pub notes : (id : ℕ) (v : V) → v.stage ≡ Outside → Splits K id v v (note_of v)
+  pub notes : (id : ℕ) (v : V) → v.stage ≡ Outside → Splits K id v v (note_view v)
   notes id v is s r at = let own = m.knows story maker fixed k s r id v Outside at is in let out = ap (m.is_inside story maker fixed k) is in
-      cut s r id v v (note_of v) r.made at (omega arith) r.within (omega arith) refl refl out out refl (r.each id v at) (own.0.0, own.2, refl) (λ j u _ e. r.each j u e) (λ j u _ e. r.apart id j v u at e)
-      (λ j u e. ((λ n none _. absurd none), λ z _ _. absurd (omega arith))) (λ e. e)
+      cut s r id v v (note_view v) r.made at (omega arith) r.within (omega arith) refl refl out out refl (r.each id v at) (own.0.0, own.2, refl) (λ j u _ e. r.each j u e) (λ j u _ e. r.apart id j v u at e)
+      (λ j u e. ((λ n none _. absurd none), λ z _ _. absurd (omega arith))) (λ e. e) (λ n p. p)
 
   one_more : (next serving made : ℕ) (last : List E) (j : ℕ) (u : V) (a : Stage) → j ≢ 0 → Kn next serving made last j u a → Kn next serving (made + 1) last j u a
   one_more next serving made last j u Maker ne h = absurd (ne h.0)
@@ -176,13 +188,13 @@ module _ {S E F : Type 0} (story : S → List E) (maker : E → ℕ) (fixed : S 
   has_below next serving made last j u Closing n h p = all_below made last u.members n h.1 p
   has_below next serving made last j u Spent n h p = absurd p
 
-  pub makes : (id : ℕ) (v : V) → v.stage ≡ Maker → 0 < v.share → Splits K id v (after_making v) (new_seat v)
-  makes id v is pos s r at = let kn = m.knows story maker fixed k s r id v Maker at is in let out = ap (m.is_inside story maker fixed k) is in let left : V = after_making v in let right : V = new_seat v in
+  pub makes : (id : ℕ) (v : V) → v.stage ≡ Maker → 0 < v.share → Splits K id v (view_after_making v) (new_seat_view v)
+  makes id v is pos s r at = let kn = m.knows story maker fixed k s r id v Maker at is in let out = ap (m.is_inside story maker fixed k) is in let left : V = view_after_making v in let right : V = new_seat_view v in
       let all = kn.2 in let num = kn.1 in let none : (n : ℕ) → HasNumber (members_at v.stage left) n → ⊥ = λ n p. subst (λ (z : Stage). HasNumber (members_at z left) n) is p in
       let free : has_ticket v.stage ≡ 0 = ap has_ticket is in
       cut s r id v left right (r.made + 1) at (omega arith) (omega arith) (omega arith) refl refl out out refl
       (subst (λ (z : Stage). Kn r.next r.serving (r.made + 1) r.last id left z) (sym is) (kn.0, omega arith, omega arith, kn.3, kn.4, kn.5))
-      ((kn.5, (ap (λ n. entries_of maker n r.last) num ∙ (r.others r.made (omega arith) ∙ ap₂ (λ n l. entries_of maker n l) (sym num) (sym kn.3))), omega arith), prefix_nil r.last, kn.4, refl, kn.4)
+      ((kn.5, (ap (λ n. entries_of maker n r.last) num ∙ (r.others r.made (λ j u e p. let lt = has_below r.next r.serving r.made r.last j u u.stage r.made (r.each j u e) p in absurd (omega arith)) ∙ ap₂ (λ n l. entries_of maker n l) (sym num) (sym kn.3))), omega arith), prefix_nil r.last, kn.4, refl, kn.4)
       (λ j u ne e. one_more r.next r.serving r.made r.last j u u.stage (λ z. ne (z ∙ sym kn.0)) (r.each j u e))
       (λ j u ne e. ((λ n p _. absurd (none n p)), λ z _ _. absurd (omega arith)))
       (λ j u e. (
@@ -193,23 +205,26 @@ module _ {S E F : Type 0} (story : S → List E) (maker : E → ℕ) (fixed : S 
         λ z _ _. absurd (omega arith),
       ))
       (λ e. absurd (subst (λ (z : Stage). AnyHasSeen (members_at z v) r.last) is e))
+      (λ n p. absurd (subst (λ (z : Stage). HasNumber (members_at z v) n) is p))
 
-  pub tells : (id : ℕ) (v : V) (other : ℕ) (w : V) → v.stage ≡ Outside → w.stage ≡ Note → Joins K id v other w (told v w) spent
+  pub tells : (id : ℕ) (v : V) (other : ℕ) (w : V) → v.stage ≡ Outside → w.stage ≡ Note → Joins K id v other w (told_view v w) spent_view
   tells id v other w is is' s r at ne at' =
-      let at0 : get_elem? s.views other ≡ some w = sym (set_else s.views id other (told v w) ne) ∙ at' in
+      let at0 : get_elem? s.views other ≡ some w = sym (set_else s.views id other (told_view v w) ne) ∙ at' in
       let own = m.knows story maker fixed k s r id v Outside at is in let note = m.knows story maker fixed k s r other w Note at0 is' in
       let out = ap (m.is_inside story maker fixed k) is in let free : has_ticket w.stage ≡ 0 = ap has_ticket is' in
-      let r' = m.moved story maker fixed k s r id v (told v w) s.words s.homes r.next r.serving r.last at r.words refl refl r.others
-      (subst (λ (z : Stage). Kn r.next r.serving r.made r.last id (told v w) z) (sym is) (own.0, note.0, own.2, own.3, note.1))
+      let r' = m.moved story maker fixed k s r id v (told_view v w) s.words s.homes r.next r.serving r.last at r.words refl refl
+      (λ n p. subst (λ (z : Stage). HasNumber (members_at z (told_view v w)) n) (sym is) (subst (λ (z : Stage). HasNumber (members_at z v) n) is p)) (λ _ _. refl)
+      (subst (λ (z : Stage). Kn r.next r.serving r.made r.last id (told_view v w) z) (sym is) (own.0, note.0, own.2, own.3, note.1))
       (λ j u _ e. r.each j u e)
-      (λ j u _ e. ((λ n p q. m.names_apart story maker fixed k s r id v Outside at is j u e n (subst (λ (z : Stage). HasNumber (members_at z (told v w)) n) is p) q), (r.apart id j v u at e).1))
-      (m.slot_stays story maker fixed k s id v (told v w) s.words r.last at out out r.slot)
-      (m.witness_stays story maker fixed k s.views id v (told v w) r.last at (λ e. subst (λ (z : Stage). AnyHasSeen (members_at z (told v w)) r.last) (sym is) (subst (λ (z : Stage). AnyHasSeen (members_at z v) r.last) is e)) r.witnessed) in
-      let s' : St = record { words = s.words; homes = s.homes; views = set s.views id (told v w) } in
-      m.moved story maker fixed k s' r' other w spent s.words s.homes r'.next r'.serving r'.last at' r'.words (omega arith) (sym note.2) r'.others refl (λ j u _ e. r'.each j u e)
+      (λ j u _ e. ((λ n p q. m.names_apart story maker fixed k s r id v Outside at is j u e n (subst (λ (z : Stage). HasNumber (members_at z (told_view v w)) n) is p) q), (r.apart id j v u at e).1))
+      (m.slot_stays story maker fixed k s id v (told_view v w) s.words r.last at out out r.slot)
+      (m.witness_stays story maker fixed k s.views id v (told_view v w) r.last at (λ e. subst (λ (z : Stage). AnyHasSeen (members_at z (told_view v w)) r.last) (sym is) (subst (λ (z : Stage). AnyHasSeen (members_at z v) r.last) is e)) r.witnessed) in
+      let s' : St = record { words = s.words; homes = s.homes; views = set s.views id (told_view v w) } in
+      m.moved story maker fixed k s' r' other w spent_view s.words s.homes r'.next r'.serving r'.last at' r'.words (omega arith) (sym note.2)
+      (λ n p. absurd (subst (λ (z : Stage). HasNumber (members_at z w) n) is' p)) (λ _ _. refl) refl (λ j u _ e. r'.each j u e)
       (λ j u _ e. ((λ n p _. absurd p), λ z _ _. absurd (omega arith)))
-      (m.slot_stays story maker fixed k s' other w spent s.words r'.last at' (ap (m.is_inside story maker fixed k) is') refl r'.slot)
-      (m.witness_stays story maker fixed k s'.views other w spent r'.last at' (λ e. absurd (subst (λ (z : Stage). AnyHasSeen (members_at z w) r'.last) is' e)) r'.witnessed)
+      (m.slot_stays story maker fixed k s' other w spent_view s.words r'.last at' (ap (m.is_inside story maker fixed k) is') refl r'.slot)
+      (m.witness_stays story maker fixed k s'.views other w spent_view r'.last at' (λ e. absurd (subst (λ (z : Stage). AnyHasSeen (members_at z w) r'.last) is' e)) r'.witnessed)
 
   mems_append : (made : ℕ) (last : List E) (xs ys : List (ℕ × List E)) → m.Mems story maker fixed k made last xs → m.Mems story maker fixed k made last ys → m.Mems story maker fixed k made last (xs ++ ys)
   mems_append made last [] ys g h = h
@@ -241,15 +256,16 @@ module _ {S E F : Type 0} (story : S → List E) (maker : E → ℕ) (fixed : S 
       (λ t. ⊎_elim (λ t'. subst (λ (q : ℕ × V). P q.0 q.1) (λ i. (sym t'.0 i, t'.1 i)) x) (λ t'. z j u t'.0 t.0 t'.1) (at_set vs id j b u t.1))
       (at_set (set vs id b) other j c u e)
 
-  pub gathers : (id : ℕ) (v : V) (other : ℕ) (w : V) → is_at_rest v.stage ≡ 1 → is_at_rest w.stage ≡ 1 → Joins K id v other w (gathered v w) spent
+  pub gathers : (id : ℕ) (v : V) (other : ℕ) (w : V) → is_at_rest v.stage ≡ 1 → is_at_rest w.stage ≡ 1 → Joins K id v other w (gathered_view v w) spent_view
   gathers id v other w is is' s r at ne at' =
-      let b : V = gathered v w in let c : V = spent in let vs : List V = s.views in
+      let b : V = gathered_view v w in let c : V = spent_view in let vs : List V = s.views in
       let at0 : get_elem? vs other ≡ some w = sym (set_else vs id other b ne) ∙ at' in
       let kv = still_members r.next r.serving r.made r.last id v v.stage is (r.each id v at) in let kw = still_members r.next r.serving r.made r.last other w w.stage is' (r.each other w at0) in
       let fv = still_free v.stage is in let fw = still_free w.stage is' in
       let qv : has_ticket v.stage ≡ 0 = fv.0 in let qw : has_ticket w.stage ≡ 0 = fw.0 in
       let q1 = total_set tickets_of vs id v b at in let q2 = total_set tickets_of (set vs id b) other w c at' in
       let p1 = total_set share_of vs id v b at in let p2 = total_set share_of (set vs id b) other w c at' in let d = r.drawn in
+      let at_b : get_elem? (set (set vs id b) other c) id ≡ some b = set_else (set vs id b) other id c (λ z. ne (sym z)) ∙ here vs id v b at in
       let with_c : (i j : ℕ) (u : V) → Ap i c j u = λ i j u. ((λ n p _. absurd p), λ z _ _. absurd (omega arith)) in
       let with_b : (j : ℕ) (u : V) → j ≢ id → j ≢ other → get_elem? vs j ≡ some u → Ap id b j u = λ j u nid no e.
       ((λ n p q. ⊎_elim (λ t. absurd (no (sym ((r.apart other j w u at0 e).0 n t q)))) (λ t. absurd (nid (sym ((r.apart id j v u at e).0 n t q)))) (has_number_append (members_of w) (members_of v) n p)), λ z _ _. absurd (omega arith)) in record {
@@ -262,7 +278,11 @@ module _ {S E F : Type 0} (story : S → List E) (maker : E → ℕ) (fixed : S 
         shares = (let e : total share_of (set (set vs id b) other c) ≡ total share_of vs = omega arith in e) ∙ r.shares;
         few = r.few;
         within = r.within;
-        others = r.others;
+        others = λ n none. r.others n (λ j u e p. dite (ℕ_discrete j id)
+            (λ same. none id b at_b (has_number_right (members_of w) (members_of v) n (subst (λ (z : V). HasNumber (members_of z) n) (m.same_view story maker fixed k vs j id u v e at same) p)))
+            (λ no. dite (ℕ_discrete j other)
+            (λ same. none id b at_b (has_number_left (members_of w) (members_of v) n (subst (λ (z : V). HasNumber (members_of z) n) (m.same_view story maker fixed k vs j other u w e at0 same) p)))
+            (λ not. none j u (set_else (set vs id b) other j c not ∙ (set_else vs id j b no ∙ e)) p)));
         each = after_join vs id other b c (λ j u. Kn r.next r.serving r.made r.last j u u.stage) (kv.0, mems_append r.made r.last (members_of w) (members_of v) kw.1 kv.1, (let pv = kv.2 in let pw = kw.2 in let la = length-append (members_of w) (members_of v) in omega arith)) refl (λ j u _ _ e. r.each j u e);
         apart = λ i j x y ex ey. after_join vs id other b c (λ i x. Ap i x j y)
             (after_join vs id other b c (λ j y. Ap id b j y) ((λ _ _ _. refl), λ _ _ _. refl) (m.apart_sym story maker fixed k other c id b (with_c other id b)) with_b j y ey)
@@ -270,9 +290,9 @@ module _ {S E F : Type 0} (story : S → List E) (maker : E → ℕ) (fixed : S 
             (λ i x ni no e. after_join vs id other b c (λ j y. Ap i x j y) (m.apart_sym story maker fixed k id b i x (with_b i x ni no e)) (m.apart_sym story maker fixed k other c i x (with_c other i x)) (λ j y _ _ e'. r.apart i j x y e e') j y ey)
             i x ex;
         witnessed = ⊎_elim (λ t. inl t) (λ t. inr (dite (ℕ_discrete t.0 id)
-            (λ e. (id, b, set_else (set vs id b) other id c (λ z. ne (sym z)) ∙ here vs id v b at, any_seen_right (members_of w) (members_of v) r.last (subst (λ (z : V). AnyHasSeen (members_of z) r.last) (m.same_view story maker fixed k vs t.0 id t.1 v t.2 at e) t.3)))
+            (λ e. (id, b, at_b, any_seen_right (members_of w) (members_of v) r.last (subst (λ (z : V). AnyHasSeen (members_of z) r.last) (m.same_view story maker fixed k vs t.0 id t.1 v t.2 at e) t.3)))
             (λ no. dite (ℕ_discrete t.0 other)
-            (λ e. (id, b, set_else (set vs id b) other id c (λ z. ne (sym z)) ∙ here vs id v b at, any_seen_left (members_of w) (members_of v) r.last (subst (λ (z : V). AnyHasSeen (members_of z) r.last) (m.same_view story maker fixed k vs t.0 other t.1 w t.2 at0 e) t.3)))
+            (λ e. (id, b, at_b, any_seen_left (members_of w) (members_of v) r.last (subst (λ (z : V). AnyHasSeen (members_of z) r.last) (m.same_view story maker fixed k vs t.0 other t.1 w t.2 at0 e) t.3)))
             (λ not. (t.0, t.1, set_else (set vs id b) other t.0 c not ∙ (set_else vs id t.0 b no ∙ t.2), t.3))))) r.witnessed;
         slot = m.slot_stays story maker fixed k record { words = s.words; homes = s.homes; views = set vs id b } other w c s.words r.last at' fw.1 refl (m.slot_stays story maker fixed k s id v b s.words r.last at fv.1 refl r.slot);
       }
@@ -286,20 +306,26 @@ module _ {S E F : Type 0} (story : S → List E) (maker : E → ℕ) (fixed : S 
   named_parts next serving made last j u Closing h p = let one = h.2 in omega arith
   named_parts next serving made last j u Spent h p = absurd (omega arith)
 
+  -- beside a view that stands for all seats no other has a number
+  nobody_else : (s : St) (r : K s) (id : ℕ) (v : V) (j : ℕ) (u : V) → get_elem? s.views id ≡ some v → v.share ≡ k.seats → j ≢ id → get_elem? s.views j ≡ some u → 0 < length (members_of u) → ⊥
+  nobody_else s r id v j u at all ne e named = let two = total_two share_of s.views id j v u (λ z. ne (sym z)) at e in
+      let some = named_parts r.next r.serving r.made r.last j u u.stage (r.each j u e) named in let sum = r.shares in omega arith
+
   -- who has taken in all seats knows where the state is
   pub ends : (id : ℕ) (v : V) (ws : List ℕ) (xs : List (Option S)) → is_at_rest v.stage ≡ 1 → v.share ≡ k.seats → Final (Seen K id v) ws xs
-      → (x : S) × (get_elem? xs 0 ≡ some (Some x)) × (fixed x ≡ fixed_value) × m.Mems story maker fixed k k.seats (story x) (members_of v) × ((n : ℕ) → k.seats ≤ n → entries_of maker n (story x) ≡ entries_of maker n first) × ((story x ≡ first) ⊎ AnyHasSeen (members_of v) (story x))
+      → (x : S) × (get_elem? xs 0 ≡ some (Some x)) × (fixed x ≡ fixed_value) × m.Mems story maker fixed k k.seats (story x) (members_of v) × ((n : ℕ) → ¬ HasNumber (members_of v) n → entries_of maker n (story x) ≡ entries_of maker n first) × ((story x ≡ first) ⊎ AnyHasSeen (members_of v) (story x))
   ends id v ws xs is all f = let s : St = f.0 in let r = f.1.0 in let at = f.1.1 in let kv = still_members r.next r.serving r.made r.last id v v.stage is (r.each id v at) in ⊎_elim
       (λ home. let x : S = home.0 in (
         x,
         f.4 0 (Some x) (ap (λ l. get_elem? l 0) home.1),
         home.3,
         subst (λ (l : List E). m.Mems story maker fixed k k.seats l (members_of v)) (sym home.2) (widen r.made r.last (members_of v) r.within kv.1),
-        (λ n le. let within = r.within in ap (entries_of maker n) home.2 ∙ r.others n (omega arith)),
+        (λ n none. ap (entries_of maker n) home.2 ∙ r.others n (λ j u e p. dite (ℕ_discrete j id)
+            (λ same. none (subst (λ (z : V). HasNumber (members_of z) n) (m.same_view story maker fixed k s.views j id u v e at same) p))
+            (λ no. nobody_else s r id v j u at all no e (has_number_some (members_of u) n p)))),
         ⊎_elim (λ t. inl (home.2 ∙ t)) (λ t. inr (subst (λ (l : List E). AnyHasSeen (members_of v) l) (sym home.2) (dite (ℕ_discrete t.0 id)
             (λ e. subst (λ (z : V). AnyHasSeen (members_of z) r.last) (m.same_view story maker fixed k s.views t.0 id t.1 v t.2 at e) t.3)
-            (λ no. let two = total_two share_of s.views id t.0 v t.1 (λ e. no (sym e)) at t.2 in
-            let some = named_parts r.next r.serving r.made r.last t.0 t.1 t.1.stage (r.each t.0 t.1 t.2) (any_seen_some (members_of t.1) r.last t.3) in let sum = r.shares in absurd (omega arith))))) r.witnessed,
+            (λ no. absurd (nobody_else s r id v t.0 t.1 at all no t.2 (any_seen_some (members_of t.1) r.last t.3)))))) r.witnessed,
       ))
       (λ away. let h : ℕ = away.0 in let u : V = away.1 in let ku = m.knows story maker fixed k s r h u Inside away.2 away.3 in
       let apart : id ≢ h = λ e. m.out story maker fixed k v.stage (still_free v.stage is).1 (ap (λ (z : V). z.stage) (sym (m.same_view story maker fixed k s.views h id u v away.2 at (sym e))) ∙ away.3) in

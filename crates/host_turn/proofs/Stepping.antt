@@ -16,8 +16,8 @@ use Rattle.host_turn.specs.declared.view.View.{View}
 use Rattle.host_turn.specs.declared.view.Stage.{Stage}
 use Rattle.host_turn.specs.declared.view.Stage.TheVariants.{Maker, Outside, Waiting, Inside, Note, Closing, Spent}
 use Rattle.host_turn.specs.History.{entries_of, Adds, longer}
-use Rattle.host_turn.specs.Views.{total, has_ticket, HasNumber, AnyHasSeen, tickets_of, share_of, waiting, inside, outside, merged, members_at, members_of}
-use Rattle.host_turn.specs.Rule.{IsOpeningOrSeen, IsMember, AreMembers, Knows, Apart, AtHome, Away, OneHistory}
+use Rattle.host_turn.specs.Views.{total, has_ticket, HasNumber, AnyHasSeen, tickets_of, share_of, waiting_view, inside_view, outside_view, merged_view, members_at, members_of}
+use Rattle.host_turn.specs.Rule.{IsOpeningOrSeen, IsFree, IsMember, AreMembers, Knows, Apart, AtHome, Away, OneHistory}
 use Rattle.host_turn.specs.Steps.{DrawsTicket, TakesTurn, PassesTurn, MergesTold, held_history}
 use Rattle.host_turn.proofs.Totals.{total_set, total_le}
 use Rattle.host_turn.proofs.Histories.{prefix_refl, prefix_nil, prefix_trans, adds_none, entries_between, longer_left, longer_right, longer_begins, prefix_same}
@@ -52,16 +52,25 @@ module _ {S E F : Type 0} (story : S → List E) (maker : E → ℕ) (fixed : S 
   pub apart_sym : (i : ℕ) (v : V) (j : ℕ) (w : V) → Ap i v j w → Ap j w i v
   apart_sym i v j w a = ((λ n p q. sym (a.0 n q p)), λ p q e. sym (a.1 q p (sym e)))
 
+  pub same_view : (views : List V) (h id : ℕ) (u v : V) → get_elem? views h ≡ some u → get_elem? views id ≡ some v → h ≡ id → u ≡ v
+  same_view views h id u v a b e = some-injective u v (sym a ∙ (ap (λ i. get_elem? views i) e ∙ b))
+
+  -- a number that is free where one view changed was so before, if the view keeps its numbers
+  pub free_before : (views : List V) (id : ℕ) (v w : V) (n : ℕ) → get_elem? views id ≡ some v → (HasNumber (members_of v) n → HasNumber (members_of w) n) → IsFree story maker fixed (set views id w) n → IsFree story maker fixed views n
+  free_before views id v w n at names free j u e p = dite (ℕ_discrete j id)
+      (λ same. free id w (here views id v w at) (names (subst (λ (z : V). HasNumber (members_of z) n) (same_view views j id u v e at same) p)))
+      (λ ne. free j u (set_else views id j w ne ∙ e) p)
+
   -- what stays where one view changes
   pub moved : (s : St) (r : K s) (id : ℕ) (v w : V) (words' : List ℕ) (homes' : List (maybe.Option (Option S))) (next' serving' : ℕ) (last' : List E)
       → get_elem? s.views id ≡ some v → words' ≡ next' % 2 ^ 64 ∷ serving' % 2 ^ 64 ∷ [] → next' + r.serving + tickets_of v ≡ r.next + serving' + tickets_of w → share_of w ≡ share_of v
-      → ((n : ℕ) → r.made ≤ n → entries_of maker n last' ≡ entries_of maker n first) → Kn next' serving' r.made last' id w
+      → ((n : ℕ) → HasNumber (members_of v) n → HasNumber (members_of w) n) → ((n : ℕ) → ¬ HasNumber (members_of v) n → entries_of maker n last' ≡ entries_of maker n r.last) → Kn next' serving' r.made last' id w
       → ((j : ℕ) (u : V) → j ≢ id → get_elem? s.views j ≡ some u → Kn next' serving' r.made last' j u)
       → ((j : ℕ) (u : V) → j ≢ id → get_elem? s.views j ≡ some u → Ap id w j u)
       → AtHome story maker fixed k record { words = words'; homes = homes'; views = set s.views id w } last' ⊎ Away story maker fixed k record { words = words'; homes = homes'; views = set s.views id w } last'
       → IsOpeningOrSeen story maker fixed first (set s.views id w) last'
       → K record { words = words'; homes = homes'; views = set s.views id w }
-  moved s r id v w words' homes' next' serving' last' at words count same others mine rest apart slot witnessed =
+  moved s r id v w words' homes' next' serving' last' at words count same names still mine rest apart slot witnessed =
       let q = total_set tickets_of s.views id v w at in let p = total_set share_of s.views id v w at in let d = r.drawn in record {
         next = next';
         serving = serving';
@@ -72,7 +81,7 @@ module _ {S E F : Type 0} (story : S → List E) (maker : E → ℕ) (fixed : S 
         shares = (let e : total share_of (set s.views id w) ≡ total share_of s.views = omega arith in e) ∙ r.shares;
         few = r.few;
         within = r.within;
-        others = others;
+        others = λ n none. let before = free_before s.views id v w n at (names n) none in still n (before id v at) ∙ r.others n before;
         each = λ j u e. ⊎_elim (λ t. subst (λ (z : ℕ × V). Kn next' serving' r.made last' z.0 z.1) (λ i. (sym t.0 i, t.1 i)) mine) (λ t. rest j u t.0 t.1) (at_set s.views id j w u e);
         apart = λ i j a b ea eb. ⊎_elim
             (λ t. ⊎_elim (λ t'. let e : i ≡ j = t.0 ∙ sym t'.0 in ((λ _ _ _. e), λ _ _ _. e)) (λ t'. subst (λ (z : ℕ × V). Ap z.0 z.1 j b) (λ l. (sym t.0 l, t.1 l)) (apart j b t'.0 t'.1)) (at_set s.views id j w b eb))
@@ -91,9 +100,6 @@ module _ {S E F : Type 0} (story : S → List E) (maker : E → ℕ) (fixed : S 
 
   pub out : (a : Stage) → is_inside a ≡ 0 → a ≢ Inside
   out a z e = let o : is_inside a ≡ 1 = ap is_inside e in omega arith
-
-  pub same_view : (views : List V) (h id : ℕ) (u v : V) → get_elem? views h ≡ some u → get_elem? views id ≡ some v → h ≡ id → u ≡ v
-  same_view views h id u v a b e = some-injective u v (sym a ∙ (ap (λ i. get_elem? views i) e ∙ b))
 
   -- the slot, where a view changes that hasn't the turn
   pub slot_stays : (s : St) (id : ℕ) (v w : V) (words' : List ℕ) (last : List E) → get_elem? s.views id ≡ some v → is_inside v.stage ≡ 0 → is_inside w.stage ≡ 0
@@ -140,14 +146,14 @@ module _ {S E F : Type 0} (story : S → List E) (maker : E → ℕ) (fixed : S 
   names_apart s r id v a at is j u e n p q = (r.apart id j v u at e).0 n (subst (λ (z : Stage). HasNumber (members_at z v) n) (sym is) p) q
 
   pub draw_allowed : (n id : ℕ) (me : M) → me.0.stage ≡ Outside → Allows K n id me 0 (λ x. (x + 1) % 2 ^ 64) (DrawsTicket story maker fixed (step n 0 1 0 none) me)
-  draw_allowed n id me is s r wide at small = let v : V = me.0 in let t : ℕ = r.next in let w : V = waiting v t in let own = knows s r id v Outside at is in let d = r.drawn in
+  draw_allowed n id me is s r wide at small = let v : V = me.0 in let t : ℕ = r.next in let w : V = waiting_view v t in let own = knows s r id v Outside at is in let d = r.drawn in
       let q : has_ticket v.stage ≡ 0 = ap has_ticket is in (
         w,
         keeps,
         tt,
         moved s r id v w (set s.words 0 ((get_or s.words 0 0 + 1) % 2 ^ 64)) s.homes (t + 1) r.serving r.last at
             ((λ i. set (r.words i) 0 ((get_or (r.words i) 0 0 + 1) % 2 ^ 64)) ∙ ap (λ z. z ∷ r.serving % 2 ^ 64 ∷ []) (mod-add-mod t (2 ^ 64) 1))
-            (omega arith) refl r.others (own, omega arith, omega arith) (λ j u _ e. later_ticket t (t + 1) r.serving r.made r.last j u u.stage (omega arith) (r.each j u e))
+            (omega arith) refl (λ m p. subst (λ (z : Stage). HasNumber (members_at z v) m) is p) (λ _ _. refl) (own, omega arith, omega arith) (λ j u _ e. later_ticket t (t + 1) r.serving r.made r.last j u u.stage (omega arith) (r.each j u e))
             (λ j u ne e. (names_apart s r id v Outside at is j u e, λ _ two same. let l = below_next t r.serving r.made r.last j u u.stage two (r.each j u e) in absurd (omega arith)))
             (slot_stays s id v w (set s.words 0 ((get_or s.words 0 0 + 1) % 2 ^ 64)) r.last at (ap is_inside is) refl r.slot)
             (witness_stays s.views id v w r.last at (λ e. subst (λ (z : Stage). AnyHasSeen (members_at z v) r.last) is e) r.witnessed),
@@ -181,11 +187,11 @@ module _ {S E F : Type 0} (story : S → List E) (maker : E → ℕ) (fixed : S 
       let found : y ≡ r.serving % 2 ^ 64 = ap (λ l. get_or l 1 0) r.words in dite (ℕ_discrete y (t % 2 ^ 64))
       (λ hit. let few = short_queue s r in let above = kn.1 in let below = kn.2 in
       let same : r.serving ≡ t = one_turn r.serving t (2 ^ 64) above (omega arith) (sym found ∙ hit) in ⊎_elim
-      (λ home. let x : S = home.0 in let w : V = inside v (story x) in let told : story x ≡ r.last = home.2 in (
+      (λ home. let x : S = home.0 in let w : V = inside_view v (story x) in let told : story x ≡ r.last = home.2 in (
         w,
         takes 0 (Some x),
         ap (λ l. get_elem? l 0) home.1,
-        moved s r id v w (set s.words 1 y) (set s.homes 0 none) r.next r.serving r.last at (same_word s r) (let q : has_ticket v.stage ≡ 1 = ap has_ticket is in omega arith) refl r.others
+        moved s r id v w (set s.words 1 y) (set s.homes 0 none) r.next r.serving r.last at (same_word s r) (let q : has_ticket v.stage ≡ 1 = ap has_ticket is in omega arith) refl (λ m p. subst (λ (z : Stage). HasNumber (members_at z v) m) is p) (λ _ _. refl)
             (((([], append-nil (story x) ∙ told), ap (entries_of maker v.number) (sym told), own.0.2), own.1, own.2, own.3, own.4), sym same, below, told)
             (λ j u _ e. r.each j u e) (λ j u _ e. (names_apart s r id v Waiting at is j u e, λ _ two eq. (r.apart id j v u at e).1 (ap has_ticket is) two eq))
             (inr (id, w, here s.views id v w at, refl, ap (λ l. set l 0 none) home.1)) (inr (id, w, here s.views id v w at, inl told)),
@@ -227,7 +233,7 @@ module _ {S E F : Type 0} (story : S → List E) (maker : E → ℕ) (fixed : S 
 
   pub pass_allowed : (n id : ℕ) (me : M) (x : S) → me.0.stage ≡ Inside → me.1 ≡ (0, Some x) ∷ [] → me.0.fixed ≡ Some (fixed x) → Adds maker me.0.number me.0.seen (story x)
       → Allows K n id me 1 (λ y. (y + 1) % 2 ^ 64) (PassesTurn story maker fixed (step n 1 1 0 none) me)
-  pass_allowed n id me x is has same_fixed add s r wide at small = let v : V = me.0 in let ys : List E = held_history story maker fixed me.1 in let w : V = outside v ys in
+  pass_allowed n id me x is has same_fixed add s r wide at small = let v : V = me.0 in let ys : List E = held_history story maker fixed me.1 in let w : V = outside_view v ys in
       let kn = knows s r id v Inside at is in let own = kn.0 in let its : ys ≡ story x = ap (held_history story maker fixed) has in
       let more : Adds maker v.number r.last ys = subst (λ (z : List E × List E). Adds maker v.number z.0 z.1) (λ i. (kn.3 i, sym its i)) add in
       let ext : IsPrefix r.last ys = (more.0, sym more.1) in let d = r.drawn in ⊎_elim
@@ -239,7 +245,8 @@ module _ {S E F : Type 0} (story : S → List E) (maker : E → ℕ) (fixed : S 
         moved s r id v w (set s.words 1 ((get_or s.words 1 0 + 1) % 2 ^ 64)) (homes_after s.homes me.1 gives) r.next (r.serving + 1) ys at
             ((λ i. set (r.words i) 1 ((get_or (r.words i) 1 0 + 1) % 2 ^ 64)) ∙ ap (λ z. r.next % 2 ^ 64 ∷ z ∷ []) (mod-add-mod r.serving (2 ^ 64) 1))
             (let q : has_ticket v.stage ≡ 1 = ap has_ticket is in omega arith) refl
-            (λ m le. let lt = own.0.2 in adds_none maker v.number m r.last ys (λ e. omega arith) more ∙ r.others m le)
+            (λ m p. subst (λ (z : Stage). HasNumber (members_at z v) m) is p)
+            (λ m none. adds_none maker v.number m r.last ys (λ e. none (subst (λ (z : Stage). HasNumber (members_at z v) m) (sym is) (inl (sym e)))) more)
             ((prefix_refl ys, refl, own.0.2), prefix_trans v.told r.last ys own.1 ext, own.2, own.3, own.4)
             (λ j u ne e. served r.next r.serving r.made r.last ys j u u.stage ext
             (λ m p. adds_none maker v.number m r.last ys (λ same. ne (sym (names_apart s r id v Inside at is j u e m (inl (sym same)) p))) more)
@@ -261,13 +268,14 @@ module _ {S E F : Type 0} (story : S → List E) (maker : E → ℕ) (fixed : S 
       r.slot
 
   pub merge_allowed : (n id : ℕ) (me : M) → me.0.stage ≡ Outside → Allows K n id me 1 (λ x. x) (MergesTold story maker fixed (step n 1 0 0 none) me)
-  merge_allowed n id me is s r wide at small = let v : V = me.0 in let w : V = merged v in let own = knows s r id v Outside at is in
+  merge_allowed n id me is s r wide at small = let v : V = me.0 in let w : V = merged_view v in let own = knows s r id v Outside at is in
       let a = longer_left v.seen v.told r.last own.0.0 own.1 in let b = longer_right v.seen v.told r.last own.0.0 own.1 in let c = longer_begins v.seen v.told r.last own.0.0 own.1 in
       let same : entries_of maker v.number (longer v.seen v.told) ≡ entries_of maker v.number v.seen = entries_between maker v.number v.seen (longer v.seen v.told) r.last a c own.0.1 in (
         w,
         keeps,
         tt,
-        moved s r id v w (set s.words 1 (get_or s.words 1 0)) s.homes r.next r.serving r.last at (same_word s r) refl refl r.others
+        moved s r id v w (set s.words 1 (get_or s.words 1 0)) s.homes r.next r.serving r.last at (same_word s r) refl refl
+            (λ m p. subst (λ (z : Stage). HasNumber (members_at z w) m) (sym is) (subst (λ (z : Stage). HasNumber (members_at z v) m) is p)) (λ _ _. refl)
             (subst (λ (z : Stage). Knows story maker fixed r.next r.serving r.made k.seats first r.last fixed_value id w z) (sym is) ((c, own.0.1 ∙ sym same, own.0.2), prefix_nil r.last, own.2, own.3, own.4))
             (λ j u _ e. r.each j u e)
             (λ j u ne e. (subst (λ (z : Stage). (m : ℕ) → HasNumber (members_at z w) m → HasNumber (members_of u) m → id ≡ j) (sym is) (names_apart s r id v Outside at is j u e), (r.apart id j v u at e).1))

@@ -54,6 +54,10 @@ module _ {S E F : Type 0} (story : S → List E) (maker : E → ℕ) (fixed : S 
   abbrev pub IsOpeningOrSeen : List E → List (View E F) → List E → Type 0
   IsOpeningOrSeen first views last = (last ≡ first) ⊎ ((j : ℕ) × (v : View E F) × (get_elem? views j ≡ some v) × AnyHasSeen (members_of v) last)
 
+  -- no view has this number
+  abbrev pub IsFree : List (View E F) → ℕ → Type 0
+  IsFree views n = (j : ℕ) (v : View E F) → get_elem? views j ≡ some v → ¬ HasNumber (members_of v) n
+
   -- the rule
   pub record OneHistory (k : Opening S) (s : State (Option S) (View E F)) : Type 0 where
     pub next : ℕ
@@ -65,7 +69,7 @@ module _ {S E F : Type 0} (story : S → List E) (maker : E → ℕ) (fixed : S 
     pub shares : total share_of s.views ≡ k.seats
     pub few : k.seats < 2 ^ 32
     pub within : made ≤ k.seats
-    pub others : (n : ℕ) → made ≤ n → entries_of maker n last ≡ entries_of maker n (story k.state.value)
+    pub others : (n : ℕ) → IsFree s.views n → entries_of maker n last ≡ entries_of maker n (story k.state.value)
     pub each : (j : ℕ) (v : View E F) → get_elem? s.views j ≡ some v → Knows next serving made k.seats (story k.state.value) last (fixed k.state.value) j v v.stage
     pub apart : (i j : ℕ) (v w : View E F) → get_elem? s.views i ≡ some v → get_elem? s.views j ≡ some w → Apart i v j w
     pub witnessed : IsOpeningOrSeen (story k.state.value) s.views last

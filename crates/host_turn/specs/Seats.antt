@@ -35,12 +35,12 @@ module _ {S E F : Type 0} where
   fixed_part q = q.seat.me.0.fixed
 
   -- the beginning of the history that the seat has seen
-  abbrev pub seen : BookSeat S E F → List E
-  seen q = q.seat.me.0.seen
+  abbrev pub seen_by : BookSeat S E F → List E
+  seen_by q = q.seat.me.0.seen
 
   -- the entries that the seat made
   abbrev pub own_entries : (E → ℕ) → BookSeat S E F → List E
-  own_entries maker q = entries_of maker (number q) (seen q)
+  own_entries maker q = entries_of maker (number q) (seen_by q)
 
   abbrev pub IsSeatOf : Book S E F → BookSeat S E F → Type 0
   IsSeatOf b q = seat_book q ≡ book_id b
@@ -67,7 +67,7 @@ module _ {S E F : Type 0} where
 
   -- a seat of a book that was made with the state x, before its first turn
   abbrev pub IsNewSeat : (S → List E) → (S → F) → TableId → S → ℕ → BookSeat S E F → Type 0
-  IsNewSeat story fixed b x n q = (seat_book q ≡ b) × IsOutside q × (number q ≡ n) × (seen q ≡ story x) × (fixed_part q ≡ Some (fixed x))
+  IsNewSeat story fixed b x n q = (seat_book q ≡ b) × IsOutside q × (number q ≡ n) × (seen_by q ≡ story x) × (fixed_part q ≡ Some (fixed x))
 
   -- the seats are numbered from 0
   abbrev pub AreNewSeats : (S → List E) → (S → F) → TableId → S → List (BookSeat S E F) → Type 0
@@ -75,14 +75,14 @@ module _ {S E F : Type 0} where
 
   -- some seat of the list has seen just this history
   abbrev pub IsSeenBySome : List (BookSeat S E F) → List E → Type 0
-  IsSeenBySome qs xs = (n : ℕ) × (q : BookSeat S E F) × (slice_get qs n ≡ Some q) × (seen q ≡ xs)
+  IsSeenBySome qs xs = (n : ℕ) × (q : BookSeat S E F) × (slice_get qs n ≡ Some q) × (seen_by q ≡ xs)
 
   -- the first seat of the table, which makes the others, and has made n of them
   abbrev pub IsMaker : (S → List E) → (S → F) → Book S E F → ℕ → ℕ → Seat (Option S) (View E F) → Type 0
   IsMaker story fixed b left n m = (m.table_id ≡ book_id b) × (m.me.0.stage ≡ Maker) × (m.me.0.share ≡ left) × (m.me.0.number ≡ n) × (m.me.0.seen ≡ story (opening_of b)) × (m.me.0.fixed ≡ Some (fixed (opening_of b)))
 
   abbrev pub member_of : BookSeat S E F → ℕ × List E
-  member_of q = (number q, seen q)
+  member_of q = (number q, seen_by q)
 
   -- the seat has taken in others, and stands for n seats, which are these members
   abbrev pub HasGathered : Book S E F → BookSeat S E F → ℕ → List (ℕ × List E) → Type 0

@@ -1,5 +1,5 @@
 //! The book: a state behind a ticket lock.
-ghost use Rattle.std.specs.Prelude.{◌≡◌, ◌⊎◌, ℕ, ◌+◌, ◌<◌, ◌≤◌, Some, [], ◌∷◌, ◌++◌, map, drop, length, All, IfOk, IfErr, MatchOption, vec_len, vec_capacity};
+ghost use Rattle.std.specs.Prelude.{◌≡◌, ◌≢◌, ◌⊎◌, ℕ, ◌+◌, ◌<◌, ◌≤◌, Some, [], ◌∷◌, ◌++◌, map, drop, length, All, IfOk, IfErr, MatchOption, vec_len, vec_capacity};
 ghost use mathlib.Core.List.{IsPrefix};
 ghost use Rattle.host_turn.specs.History.{entries_of, Adds, Continues, longer};
 
@@ -34,7 +34,7 @@ pub struct NoBook<S> {
 }
 
 impl<S: Story> Book<S> {
-    ghost use Rattle.host_turn.specs.Seats.{IsMaker, IsSeatOf, IsOutside, IsWaiting, IsInside, IsSameSeat, IsSeatOutside, IsNewSeat, AreNewSeats, HasGathered, IsSeenBySome, member_of, number, seen, fixed_part, own_entries, book_id, opening_of, seat_count};
+    ghost use Rattle.host_turn.specs.Seats.{IsMaker, IsSeatOf, IsOutside, IsWaiting, IsInside, IsSameSeat, IsSeatOutside, IsNewSeat, AreNewSeats, HasGathered, IsSeenBySome, member_of, number, seen_by, fixed_part, own_entries, book_id, opening_of, seat_count};
 
     /// A book with its seats, numbered from 0 by their places. It has `NoBook` for an answer only for want of memory.
     pub fn new(
@@ -107,8 +107,8 @@ impl<S: Story> Book<S> {
     pub fn enter<R: Wait>(&self, rt: &R, seat: &mut BookSeat<S>) -> S
         requires { IsSeatOf self.now seat.old × IsOutside seat.old }
         ensures seat { IsSameSeat seat.old seat.new × IsInside seat.new }
-        ensures story { S.story result ≡ seen seat.new }
-        ensures later { Continues S.maker (number seat.old) (seen seat.old) (seen seat.new) }
+        ensures story { S.story result ≡ seen_by seat.new }
+        ensures later { Continues S.maker (number seat.old) (seen_by seat.old) (seen_by seat.new) }
         ensures fixed_part { fixed_part seat.new ≡ Some (S.fixed result) }
     {
         let ticket = self.draw_ticket(seat);
@@ -125,8 +125,8 @@ impl<S: Story> Book<S> {
     pub fn enter_past<R: Wait>(&self, rt: &R, seat: &mut BookSeat<S>, n: u64) -> S
         requires { IsSeatOf self.now seat.old × IsOutside seat.old }
         ensures seat { IsSameSeat seat.old seat.new × IsInside seat.new }
-        ensures story { S.story result ≡ seen seat.new }
-        ensures later { Continues S.maker (number seat.old) (seen seat.old) (seen seat.new) }
+        ensures story { S.story result ≡ seen_by seat.new }
+        ensures later { Continues S.maker (number seat.old) (seen_by seat.old) (seen_by seat.new) }
         ensures fixed_part { fixed_part seat.new ≡ Some (S.fixed result) }
         ensures past { n ≤ length (S.story result) }
     {
@@ -143,7 +143,7 @@ impl<S: Story> Book<S> {
 
     fn draw_ticket(&self, seat: &mut BookSeat<S>) -> u64
         requires { IsSeatOf self.now seat.old × IsOutside seat.old }
-        ensures { IsSameSeat seat.old seat.new × IsWaiting result seat.new × (seen seat.new ≡ seen seat.old) }
+        ensures { IsSameSeat seat.old seat.new × IsWaiting result seat.new × (seen_by seat.new ≡ seen_by seat.old) }
     {
         let shared = &self.table.shared;
         shared.fetch_add::<DrawTicket<S>>(&mut seat.seat, NEXT, 1)
@@ -154,8 +154,8 @@ impl<S: Story> Book<S> {
         requires { IsSeatOf self.now seat.old × IsWaiting ticket seat.old }
         ensures same { IsSameSeat seat.old seat.new }
         ensures state { MatchOption result
-            (IsWaiting ticket seat.new × (seen seat.new ≡ seen seat.old))
-            (λ x. IsInside seat.new × (S.story x ≡ seen seat.new) × Continues S.maker (number seat.old) (seen seat.old) (seen seat.new) × (fixed_part seat.new ≡ Some (S.fixed x))) }
+            (IsWaiting ticket seat.new × (seen_by seat.new ≡ seen_by seat.old))
+            (λ x. IsInside seat.new × (S.story x ≡ seen_by seat.new) × Continues S.maker (number seat.old) (seen_by seat.old) (seen_by seat.new) × (fixed_part seat.new ≡ Some (S.fixed x))) }
     {
         let shared = &self.table.shared;
         if shared.load::<TakeTurn<S>>(&mut seat.seat, SERVING) == ticket {
@@ -168,11 +168,11 @@ impl<S: Story> Book<S> {
     /// Hands the state back, and the turn on. The history may have grown by entries with the seat's number, which become the last of its own.
     pub fn leave(&self, seat: &mut BookSeat<S>, state: S)
         requires seat { IsSeatOf self.now seat.old × IsInside seat.old }
-        requires story { Adds S.maker (number seat.old) (seen seat.old) (S.story state) }
+        requires story { Adds S.maker (number seat.old) (seen_by seat.old) (S.story state) }
         requires fixed_part { fixed_part seat.old ≡ Some (S.fixed state) }
         ensures seat { IsSameSeat seat.old seat.new × IsOutside seat.new }
-        ensures story { seen seat.new ≡ S.story state }
-        ensures own { own_entries S.maker seat.new ≡ own_entries S.maker seat.old ++ drop (length (seen seat.old)) (S.story state) }
+        ensures story { seen_by seat.new ≡ S.story state }
+        ensures own { own_entries S.maker seat.new ≡ own_entries S.maker seat.old ++ drop (length (seen_by seat.old)) (S.story state) }
     {
         let shared = &self.table.shared;
         let nothing = shared.exchange(&mut seat.seat, 0, Some(state));
@@ -184,11 +184,11 @@ impl<S: Story> Book<S> {
     pub fn meet(&self, from: &mut BookSeat<S>, to: &mut BookSeat<S>)
         requires from { IsSeatOf self.now from.old × IsOutside from.old }
         requires to { IsSeatOf self.now to.old × IsOutside to.old }
-        ensures from { IsSameSeat from.old from.new × IsOutside from.new × (seen from.new ≡ seen from.old) }
+        ensures from { IsSameSeat from.old from.new × IsOutside from.new × (seen_by from.new ≡ seen_by from.old) }
         ensures to { IsSameSeat to.old to.new × IsOutside to.new }
-        ensures told { IsPrefix (seen from.old) (seen to.new) }
-        ensures later { Continues S.maker (number to.old) (seen to.old) (seen to.new) }
-        ensures seen { seen to.new ≡ longer (seen to.old) (seen from.old) }
+        ensures told { IsPrefix (seen_by from.old) (seen_by to.new) }
+        ensures later { Continues S.maker (number to.old) (seen_by to.old) (seen_by to.new) }
+        ensures seen { seen_by to.new ≡ longer (seen_by to.old) (seen_by from.old) }
         ensures fixed_part { fixed_part from.old ≡ fixed_part to.old }
     {
         let shared = &self.table.shared;
@@ -201,8 +201,10 @@ impl<S: Story> Book<S> {
     pub fn close(self, mut seats: Vec<BookSeat<S>>) -> S
         requires all { (vec_len seats ≡ seat_count self) × (0 < vec_len seats) }
         requires outside { All (λ q. IsSeatOutside self q) seats.items }
-        ensures seats { All (λ q. Continues S.maker (number q) (seen q) (S.story result)) seats.items }
-        ensures others { (n : ℕ) → seat_count self ≤ n → entries_of S.maker n (S.story result) ≡ entries_of S.maker n (S.story (opening_of self)) }
+        ensures seats { All (λ q. Continues S.maker (number q) (seen_by q) (S.story result)) seats.items }
+        ensures others { (n : ℕ) → All (λ q. number q ≢ n) seats.items →
+            entries_of S.maker n (S.story result) ≡ entries_of S.maker n (S.story (opening_of self)) }
+        ensures numbers { All (λ q. number q < seat_count self) seats.items }
         ensures whole { (S.story result ≡ S.story (opening_of self)) ⊎ IsSeenBySome seats.items (S.story result) }
         ensures fixed_part { S.fixed result ≡ S.fixed (opening_of self) }
     {

@@ -1,5 +1,5 @@
 //! What each step of a seat tells. These types are for the proofs alone.
-ghost use Rattle.host_turn.specs.Views.{after_making, new_seat, note_of, told, gathered, spent};
+ghost use Rattle.host_turn.specs.Views.{view_after_making, new_seat_view, note_view, told_view, gathered_view, spent_view};
 ghost use Rattle.host_turn.specs.Steps.{DrawsTicket, TakesTurn, PassesTurn, MergesTold};
 
 use crate::story::Story;
@@ -47,9 +47,9 @@ impl<S: Story> Play<Option<S>, View<S::Entry, S::Fixed>> for MergeTold<S> {
 pub struct MakeSeat;
 
 impl<E, F> Split<View<E, F>> for MakeSeat {
-    ghost left = { after_making };
+    ghost left = { view_after_making };
 
-    ghost right = { new_seat };
+    ghost right = { new_seat_view };
 }
 
 /// A seat tells what it has seen, by a note.
@@ -58,20 +58,20 @@ pub struct TellSeen;
 impl<E, F> Split<View<E, F>> for TellSeen {
     ghost left = { λ v. v };
 
-    ghost right = { note_of };
+    ghost right = { note_view };
 }
 
 impl<E, F> Join<View<E, F>> for TellSeen {
-    ghost both = { told };
+    ghost both = { told_view };
 
-    ghost spent = { spent };
+    ghost spent = { spent_view };
 }
 
 /// A seat takes in another, for good.
 pub struct GatherSeat;
 
 impl<E, F> Join<View<E, F>> for GatherSeat {
-    ghost both = { gathered };
+    ghost both = { gathered_view };
 
-    ghost spent = { spent };
+    ghost spent = { spent_view };
 }

@@ -1,11 +1,11 @@
-use Rattle.std.proofs.Common.{◌≡◌, ◌⊎◌, ◌+◌, ◌≤◌, ℕ, [], ◌∷◌, ◌++◌, length, map, ap, subst, sym, ◌∙◌, vec_len}
+use Rattle.std.proofs.Common.{◌≡◌, ◌⊎◌, ◌+◌, ◌≢◌, ℕ, [], ◌∷◌, ◌++◌, length, map, ap, subst, sym, ◌∙◌, vec_len}
 use Rattle.std.specs.Prelude.{Option}
 use Rattle.std.specs.Option.{option_to_list}
 use Rattle.std.specs.List.{All}
 use Rattle.std.specs.Slots.{slots_items}
 use Rattle.host_turn.specs.declared.seat.BookSeat.{BookSeat}
 use Rattle.host_turn.specs.History.{entries_of, Continues}
-use Rattle.host_turn.specs.Seats.{HasGathered, number, seen, IsSeenBySome, member_of, seat_count, opening_of}
+use Rattle.host_turn.specs.Seats.{HasGathered, number, seen_by, IsSeenBySome, member_of, seat_count, opening_of}
 use Rattle.host_turn.proofs.SeatLists.{closing, some_same, is_some}
 use Rattle.host_turn.proofs.book.Book.close.Goals as goal
 
@@ -29,8 +29,9 @@ returns g c = let all = c.requires.all in let len = c.pop.ensures.len in
     (c.pop.ensures.items ∙ ap (λ o. c.pop.new.self.items ++ option_to_list o) c.unwrap-base.ensures) has c.close_with-closed.ensures.values.2 c.take-slot.ensures.value in
     let same : last.0 ≡ c.unwrap.result = some_same last.0 c.unwrap.result (sym last.1 ∙ c.unwrap.ensures) in
     record {
-      seats = subst (λ (x : g.row.S.Denot). All (λ q. Continues g.S.Story.maker (number q) (seen q) (g.S.Story.story x)) c.args.seats.items) same last.2;
-      others = subst (λ (x : g.row.S.Denot). (n : ℕ) → seat_count c.args.self ≤ n → entries_of g.S.Story.maker n (g.S.Story.story x) ≡ entries_of g.S.Story.maker n (g.S.Story.story (opening_of c.args.self))) same last.3;
-      whole = subst (λ (x : g.row.S.Denot). (g.S.Story.story x ≡ g.S.Story.story (opening_of c.args.self)) ⊎ IsSeenBySome c.args.seats.items (g.S.Story.story x)) same last.5;
+      seats = subst (λ (x : g.row.S.Denot). All (λ q. Continues g.S.Story.maker (number q) (seen_by q) (g.S.Story.story x)) c.args.seats.items) same last.2;
+      others = subst (λ (x : g.row.S.Denot). (n : ℕ) → All (λ q. number q ≢ n) c.args.seats.items → entries_of g.S.Story.maker n (g.S.Story.story x) ≡ entries_of g.S.Story.maker n (g.S.Story.story (opening_of c.args.self))) same last.3;
+      whole = subst (λ (x : g.row.S.Denot). (g.S.Story.story x ≡ g.S.Story.story (opening_of c.args.self)) ⊎ IsSeenBySome c.args.seats.items (g.S.Story.story x)) same last.6;
       fixed_part = ap g.S.Story.fixed (sym same) ∙ last.4;
+      numbers = last.5;
     }

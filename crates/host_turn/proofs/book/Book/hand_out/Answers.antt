@@ -1,4 +1,4 @@
-use Rattle.std.proofs.Common.{◌≡◌, ℕ, length, arith, ap, sym, subst, ◌∙◌}
+use Rattle.std.proofs.Common.{ℕ, arith, subst}
 use Rattle.host_turn.specs.Seats.{IsNewSeat, book_id, opening_of}
 use Rattle.host_turn.proofs.SeatLists.{seats_pop}
 use Rattle.host_turn.proofs.book.Book.hand_out.Goals as goal
