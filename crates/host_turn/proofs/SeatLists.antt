@@ -3,6 +3,7 @@ use Rattle.std.proofs.Common.{◌≡◌, ◌⊎◌, ℕ, zero, suc, ◌+◌, ◌
 use Rattle.std.specs.Prelude.{Option, Some, None}
 use Rattle.std.specs.Option.{unwrap_or, IsSome, option_to_list}
 use Rattle.std.specs.List.{slice_get, All}
+use Rattle.std.specs.Prelude.{slice_set}
 use Rattle.std.proofs.lemmas.List.Elements.{All-nil, All-cons, All-head, All-tail}
 use Rattle.host_turn.specs.declared.rule.Opening.{Opening}
 use Rattle.host_turn.specs.declared.book.Book.{Book}
@@ -12,7 +13,7 @@ use Rattle.host_turn.specs.declared.view.Stage.{Stage}
 use Rattle.host_turn.specs.History.{entries_of, Continues}
 use Rattle.host_turn.specs.Views.{HasNumber, AnyHasSeen, view_after_making, new_seat_view, gathered_view, is_at_rest, members_at, members_of}
 use Rattle.host_turn.specs.Rule.{OneHistory}
-use Rattle.host_turn.specs.Seats.{IsNewSeat, AreNewSeats, number, seen_by, IsSeenBySome, member_of, IsMaker, IsSeatOutside, HasGathered, book_id, opening_of, seat_count}
+use Rattle.host_turn.specs.Seats.{IsNewSeat, AreNewSeats, AreSeatsAt, IsOutside, IsSameSeat, seat_book, number, seen_by, IsSeenBySome, member_of, IsMaker, IsSeatOutside, HasGathered, book_id, opening_of, seat_count}
 use Rattle.atomic_table.specs.Seated.{TableId}
 use mathlib.Core.Option.{some, some-injective}
 use lib.ListN.{get_elem?}
@@ -67,6 +68,30 @@ module _ {S E F : Type 0} (story : S → List E) (fixed : S → F) (b : TableId)
 
   pub one_seat_more : (n : ℕ) (qs : List (BookSeat S E F)) (q : BookSeat S E F) → length qs ≡ n → AreNewSeats story fixed b x qs → IsNewSeat story fixed b x n q → AreNewSeats story fixed b x (qs ++ q ∷ [])
   one_seat_more n qs q len all new j p e = ⊎_elim (λ t. all j p t) (λ t. subst (λ (z : ℕ × BookSeat S E F). IsNewSeat story fixed b x z.0 z.1) (λ i. (sym (t.0 ∙ len) i, t.1 i)) new) (slice_get_snoc qs q p j e)
+
+module _ {A : Type 0} where
+  -- what is found after a write
+  slice_get_set : (xs : List A) (i j : ℕ) (y z : A) → slice_get (slice_set xs i y) j ≡ Some z → ((j ≡ i) × (y ≡ z)) ⊎ (slice_get xs j ≡ Some z)
+  slice_get_set [] i j y z e = inr e
+  slice_get_set (x ∷ xs) zero zero y z e = inl (refl, some_same y z e)
+  slice_get_set (x ∷ xs) zero (suc j) y z e = inr e
+  slice_get_set (x ∷ xs) (suc i) zero y z e = inr e
+  slice_get_set (x ∷ xs) (suc i) (suc j) y z e = ⊎_elim (λ t. inl (ap suc t.0, t.1)) (λ t. inr t) (slice_get_set xs i j y z e)
+
+module _ {S E F : Type 0} (ids : List TableId) (n : ℕ) (qs : List (BookSeat S E F)) (are : AreSeatsAt ids n qs) where
+  -- a seat took a turn
+  pub are_seats_after_turn : (k : ℕ) (p q : BookSeat S E F) → slice_get qs k ≡ Some p → IsSameSeat p q → IsOutside q → AreSeatsAt ids n (slice_set qs k q)
+  are_seats_after_turn k p q at same out j z e = ⊎_elim
+      (λ t. let old = are k p at in subst (λ (y : ℕ × BookSeat S E F). (slice_get ids y.0 ≡ Some (seat_book y.1)) × IsOutside y.1 × (number y.1 ≡ n)) (λ i. (sym t.0 i, t.1 i)) (old.0 ∙ ap Some (sym same.0), out, same.2 ∙ old.2))
+      (λ t. are j z t)
+      (slice_get_set qs k j q z e)
+
+  -- one more book, with its seat
+  pub are_seats_with_more : (q : BookSeat S E F) → length ids ≡ length qs → IsOutside q → number q ≡ n → AreSeatsAt (ids ++ seat_book q ∷ []) n (qs ++ q ∷ [])
+  are_seats_with_more q len out is j z e = ⊎_elim
+      (λ t. let old = are j z t in (slice_get_longer ids (seat_book q ∷ []) j (seat_book z) old.0, old.1, old.2))
+      (λ t. subst (λ (y : ℕ × BookSeat S E F). (slice_get (ids ++ seat_book q ∷ []) y.0 ≡ Some (seat_book y.1)) × IsOutside y.1 × (number y.1 ≡ n)) (λ i. (sym t.0 i, t.1 i)) (ap (slice_get (ids ++ seat_book q ∷ [])) (sym len) ∙ slice_get_last ids (seat_book q), out, is))
+      (slice_get_snoc qs q z j e)
 
 module _ {S E F : Type 0} (story : S → List E) (fixed : S → F) (b : Book S E F) where
   -- the maker makes a seat

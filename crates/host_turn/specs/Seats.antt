@@ -73,6 +73,10 @@ module _ {S E F : Type 0} where
   abbrev pub AreNewSeats : (S → List E) → (S → F) → TableId → S → List (BookSeat S E F) → Type 0
   AreNewSeats story fixed b x qs = (n : ℕ) (q : BookSeat S E F) → slice_get qs n ≡ Some q → IsNewSeat story fixed b x n q
 
+  -- the k-th seat is outside the k-th of these books, with this number
+  abbrev pub AreSeatsAt : List TableId → ℕ → List (BookSeat S E F) → Type 0
+  AreSeatsAt ids n qs = (k : ℕ) (q : BookSeat S E F) → slice_get qs k ≡ Some q → (slice_get ids k ≡ Some (seat_book q)) × IsOutside q × (number q ≡ n)
+
   -- some seat of the list has seen just this history
   abbrev pub IsSeenBySome : List (BookSeat S E F) → List E → Type 0
   IsSeenBySome qs xs = (n : ℕ) × (q : BookSeat S E F) × (slice_get qs n ≡ Some q) × (seen_by q ≡ xs)

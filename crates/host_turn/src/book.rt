@@ -45,7 +45,8 @@ impl<S: Story> Book<S> {
         requires some { 0 < seats }
         requires fresh { (n : ℕ) → n < seats → entries_of S.maker n (S.story state) ≡ [] }
         ensures book { IfOk result (λ r. (seat_count r.0 ≡ seats) × (opening_of r.0 ≡ state)) }
-        ensures seats { IfOk result (λ r. (vec_len r.1 ≡ seats) × AreNewSeats S.story S.fixed (book_id r.0) state r.1.items) }
+        ensures seats { IfOk result (λ r. (vec_len r.1 ≡ seats)
+            × AreNewSeats S.story S.fixed (book_id r.0) state r.1.items) }
         ensures none { IfErr result (λ e. e.state ≡ state) }
     {
         let Ok(mut all) = Vec::with_capacity(alloc, seats as usize) else {
@@ -85,7 +86,8 @@ impl<S: Story> Book<S> {
         requires maker { IsMaker S.story S.fixed self.now seats 0 maker.old }
         requires room { (all.old.items ≡ []) × (seats ≤ vec_capacity all.old) }
         ensures count { vec_len all.new ≡ seats }
-        ensures seats { AreNewSeats S.story S.fixed (book_id self.now) (opening_of self.now) all.new.items }
+        ensures seats { AreNewSeats S.story S.fixed (book_id self.now) (opening_of self.now)
+            all.new.items }
     {
         for _ in 0..seats {
             let seat = self.table.shared.split_seat::<MakeSeat>(maker);
@@ -95,10 +97,14 @@ impl<S: Story> Book<S> {
 
     /// Takes the last of the seats that `new` made, the one with the greatest number.
     pub fn hand_out(&self, seats: &mut Vec<BookSeat<S>>) -> BookSeat<S>
-        requires { (0 < vec_len seats.old) × AreNewSeats S.story S.fixed (book_id self.now) (opening_of self.now) seats.old.items }
-        ensures seat { IsNewSeat S.story S.fixed (book_id self.now) (opening_of self.now) (vec_len seats.new) result }
-        ensures left { AreNewSeats S.story S.fixed (book_id self.now) (opening_of self.now) seats.new.items }
-        ensures count { (vec_len seats.old ≡ vec_len seats.new + 1) × (vec_capacity seats.new ≡ vec_capacity seats.old) }
+        requires { (0 < vec_len seats.old)
+            × AreNewSeats S.story S.fixed (book_id self.now) (opening_of self.now) seats.old.items }
+        ensures seat { IsNewSeat S.story S.fixed (book_id self.now) (opening_of self.now)
+            (vec_len seats.new) result }
+        ensures left { AreNewSeats S.story S.fixed (book_id self.now) (opening_of self.now)
+            seats.new.items }
+        ensures count { (vec_len seats.old ≡ vec_len seats.new + 1)
+            × (vec_capacity seats.new ≡ vec_capacity seats.old) }
     {
         seats.pop().unwrap()
     }
@@ -143,7 +149,8 @@ impl<S: Story> Book<S> {
 
     fn draw_ticket(&self, seat: &mut BookSeat<S>) -> u64
         requires { IsSeatOf self.now seat.old × IsOutside seat.old }
-        ensures { IsSameSeat seat.old seat.new × IsWaiting result seat.new × (seen_by seat.new ≡ seen_by seat.old) }
+        ensures { IsSameSeat seat.old seat.new × IsWaiting result seat.new
+            × (seen_by seat.new ≡ seen_by seat.old) }
     {
         let shared = &self.table.shared;
         shared.fetch_add::<DrawTicket<S>>(&mut seat.seat, NEXT, 1)
@@ -155,7 +162,9 @@ impl<S: Story> Book<S> {
         ensures same { IsSameSeat seat.old seat.new }
         ensures state { MatchOption result
             (IsWaiting ticket seat.new × (seen_by seat.new ≡ seen_by seat.old))
-            (λ x. IsInside seat.new × (S.story x ≡ seen_by seat.new) × Continues S.maker (number seat.old) (seen_by seat.old) (seen_by seat.new) × (fixed_part seat.new ≡ Some (S.fixed x))) }
+            (λ x. IsInside seat.new × (S.story x ≡ seen_by seat.new)
+                × Continues S.maker (number seat.old) (seen_by seat.old) (seen_by seat.new)
+                × (fixed_part seat.new ≡ Some (S.fixed x))) }
     {
         let shared = &self.table.shared;
         if shared.load::<TakeTurn<S>>(&mut seat.seat, SERVING) == ticket {
@@ -172,7 +181,8 @@ impl<S: Story> Book<S> {
         requires fixed_part { fixed_part seat.old ≡ Some (S.fixed state) }
         ensures seat { IsSameSeat seat.old seat.new × IsOutside seat.new }
         ensures story { seen_by seat.new ≡ S.story state }
-        ensures own { own_entries S.maker seat.new ≡ own_entries S.maker seat.old ++ drop (length (seen_by seat.old)) (S.story state) }
+        ensures own { own_entries S.maker seat.new
+            ≡ own_entries S.maker seat.old ++ drop (length (seen_by seat.old)) (S.story state) }
     {
         let shared = &self.table.shared;
         let nothing = shared.exchange(&mut seat.seat, 0, Some(state));
@@ -184,7 +194,8 @@ impl<S: Story> Book<S> {
     pub fn meet(&self, from: &mut BookSeat<S>, to: &mut BookSeat<S>)
         requires from { IsSeatOf self.now from.old × IsOutside from.old }
         requires to { IsSeatOf self.now to.old × IsOutside to.old }
-        ensures from { IsSameSeat from.old from.new × IsOutside from.new × (seen_by from.new ≡ seen_by from.old) }
+        ensures from { IsSameSeat from.old from.new × IsOutside from.new
+            × (seen_by from.new ≡ seen_by from.old) }
         ensures to { IsSameSeat to.old to.new × IsOutside to.new }
         ensures told { IsPrefix (seen_by from.old) (seen_by to.new) }
         ensures later { Continues S.maker (number to.old) (seen_by to.old) (seen_by to.new) }
@@ -220,7 +231,8 @@ impl<S: Story> Book<S> {
     fn gather_seats(&self, base: &mut BookSeat<S>, mut seats: Vec<BookSeat<S>>)
         requires base { IsSeatOutside self.now base.old }
         requires seats { All (λ q. IsSeatOutside self.now q) seats.items }
-        ensures { HasGathered self.now base.new (vec_len seats + 1) (map member_of seats.items ++ member_of base.old ∷ []) }
+        ensures { HasGathered self.now base.new (vec_len seats + 1)
+            (map member_of seats.items ++ member_of base.old ∷ []) }
     {
         while let Some(BookSeat { seat }) = seats.pop() {
             self.table

@@ -2,6 +2,7 @@
 #![tactic(auto)]
 
 mod book;
+mod book_name;
 mod rule;
 mod seat;
 mod steps;
@@ -9,5 +10,6 @@ mod story;
 mod view;
 
 pub use book::{Book, NoBook};
+pub use book_name::BookName;
 pub use seat::BookSeat;
 pub use story::Story;
