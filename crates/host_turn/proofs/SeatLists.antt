@@ -1,5 +1,6 @@
 -- Lists of seats.
 use Rattle.std.proofs.Common.{◌≡◌, ◌⊎◌, ℕ, zero, suc, ◌+◌, ◌-◌, ◌<◌, ◌≢◌, List, [], ◌∷◌, ◌++◌, length, map, sym, refl, ap, ap₂, subst, ◌∙◌, inl, inr, ⊎_elim, length-append, arith}
+use Rattle.std.proofs.lemmas.List.{map-append, length-map}
 use Rattle.std.specs.Prelude.{Option, Some, None}
 use Rattle.std.specs.Option.{unwrap_or, IsSome, option_to_list}
 use Rattle.std.specs.List.{slice_get, All}
@@ -86,12 +87,15 @@ module _ {S E F : Type 0} (ids : List TableId) (n : ℕ) (qs : List (BookSeat S 
       (λ t. are j z t)
       (slice_get_set qs k j q z e)
 
-  -- one more book, with its seat
-  pub are_seats_with_more : (q : BookSeat S E F) → length ids ≡ length qs → IsOutside q → number q ≡ n → AreSeatsAt (ids ++ seat_book q ∷ []) n (qs ++ q ∷ [])
-  are_seats_with_more q len out is j z e = ⊎_elim
-      (λ t. let old = are j z t in (slice_get_longer ids (seat_book q ∷ []) j (seat_book z) old.0, old.1, old.2))
-      (λ t. subst (λ (y : ℕ × BookSeat S E F). (slice_get (ids ++ seat_book q ∷ []) y.0 ≡ Some (seat_book y.1)) × IsOutside y.1 × (number y.1 ≡ n)) (λ i. (sym t.0 i, t.1 i)) (ap (slice_get (ids ++ seat_book q ∷ [])) (sym len) ∙ slice_get_last ids (seat_book q), out, is))
-      (slice_get_snoc qs q z j e)
+-- one more of the things that have a book each, with the seat at its book
+pub are_seats_with_more : {X S E F : Type 0} (id_of : X → TableId) (n : ℕ) (xs : List X) (x : X) (qs : List (BookSeat S E F)) (q : BookSeat S E F) → AreSeatsAt (map id_of xs) n qs → length qs ≡ length xs
+    → seat_book q ≡ id_of x → IsOutside q → number q ≡ n → AreSeatsAt (map id_of (xs ++ x ∷ [])) n (qs ++ q ∷ [])
+are_seats_with_more id_of n xs x qs q are len book out is j z e = ⊎_elim
+    (λ t. let old = are j z t in (ap (λ l. slice_get l j) (map-append id_of xs (x ∷ [])) ∙ slice_get_longer (map id_of xs) (id_of x ∷ []) j (seat_book z) old.0, old.1, old.2))
+    (λ t. let place : j ≡ length (map id_of xs) = t.0 ∙ (len ∙ sym (length-map xs id_of)) in
+    let found : slice_get (map id_of (xs ++ x ∷ [])) j ≡ Some (id_of x) = ap (λ l. slice_get l j) (map-append id_of xs (x ∷ [])) ∙ (ap (slice_get (map id_of xs ++ id_of x ∷ [])) place ∙ slice_get_last (map id_of xs) (id_of x)) in
+    subst (λ (y : BookSeat _ _ _). (slice_get (map id_of (xs ++ x ∷ [])) j ≡ Some (seat_book y)) × IsOutside y × (number y ≡ n)) t.1 (found ∙ ap Some (sym book), out, is))
+    (slice_get_snoc qs q z j e)
 
 module _ {S E F : Type 0} (story : S → List E) (fixed : S → F) (b : Book S E F) where
   -- the maker makes a seat
@@ -145,10 +149,6 @@ some_seat_saw : {S E F : Type 0} (qs : List (BookSeat S E F)) (xs : List E) → 
 some_seat_saw [] xs p = absurd p
 some_seat_saw (q ∷ qs) xs p = ⊎_elim (λ e. (0, q, refl, e)) (λ t. let r = some_seat_saw qs xs t in (suc r.0, r.1, r.2, r.3)) p
 
-map-snoc : {A B : Type 0} (f : A → B) (xs : List A) (y : A) → map f (xs ++ y ∷ []) ≡ map f xs ++ f y ∷ []
-map-snoc f [] y = refl
-map-snoc f (x ∷ xs) y = ap (λ l. f x ∷ l) (map-snoc f xs y)
-
 module _ {S E F : Type 0} (story : S → List E) (maker : E → ℕ) (fixed : S → F) (b : Book S E F) where
   -- what the last seat tells, once it has taken in all others
   pub closing : (base q : BookSeat S E F) (qs all : List (BookSeat S E F)) (ws : List ℕ) (xs : List (Option S)) (slot : Option S) → all ≡ qs ++ q ∷ [] → HasGathered b base (seat_count b) (map member_of qs ++ member_of q ∷ [])
@@ -156,7 +156,7 @@ module _ {S E F : Type 0} (story : S → List E) (maker : E → ℕ) (fixed : S 
       → (x : S) × (slot ≡ Some x) × All (λ q. Continues maker (number q) (seen_by q) (story x)) all × ((n : ℕ) → All (λ q. number q ≢ n) all → entries_of maker n (story x) ≡ entries_of maker n (story (opening_of b))) × (fixed x ≡ fixed (opening_of b))
       × All (λ q. number q < seat_count b) all × ((story x ≡ story (opening_of b)) ⊎ IsSeenBySome all (story x))
   closing base q qs all ws xs slot is has f at = let k = b.table.shared.key in let e = ends story maker fixed k base.seat.id base.seat.me.0 ws xs has.1 has.3 f in let x : S = e.0 in
-      let names = has.4 ∙ (sym (map-snoc member_of qs q) ∙ ap (map member_of) (sym is)) in (
+      let names = has.4 ∙ (sym (map-append member_of qs (q ∷ [])) ∙ ap (map member_of) (sym is)) in (
         x,
         some-injective slot (Some x) (sym at ∙ e.1),
         whole_of_members story maker fixed k k.seats (story x) all (subst (λ (z : List (ℕ × List E)). Mems story maker fixed k k.seats (story x) z) names e.3),
