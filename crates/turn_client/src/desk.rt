@@ -10,7 +10,7 @@ use std::alloc::AllocError;
 use std::sync::Wait;
 
 /// That someone called, and what was said.
-#[derive(Drop)]
+#[derive(Debug, Drop, PartialEq)]
 pub struct Call {
     pub caller: u32,
     pub said: u32,

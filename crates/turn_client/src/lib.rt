@@ -12,6 +12,8 @@ mod crew;
 mod desk;
 mod diary;
 mod shelf;
+#[cfg(test)]
+mod tests;
 mod writer;
 
 pub use crew::write_together;
