@@ -16,6 +16,7 @@ use std::thread;
 
 // Indexes of the words. Both count modulo 2^64.
 const NEXT: usize = 0;
+
 const SERVING: usize = 1;
 
 /// A state behind a ticket lock. Its seats take turns, and whoever has the turn has the state.
@@ -163,8 +164,8 @@ impl<S: Story> Book<S> {
         ensures state { MatchOption result
             (IsWaiting ticket seat.new × (seen_by seat.new ≡ seen_by seat.old))
             (λ x. IsInside seat.new × (S.story x ≡ seen_by seat.new)
-                × Continues S.maker (number seat.old) (seen_by seat.old) (seen_by seat.new)
-                × (fixed_part seat.new ≡ Some (S.fixed x))) }
+            × Continues S.maker (number seat.old) (seen_by seat.old) (seen_by seat.new)
+            × (fixed_part seat.new ≡ Some (S.fixed x))) }
     {
         let shared = &self.table.shared;
         if shared.load::<TakeTurn<S>>(&mut seat.seat, SERVING) == ticket {

@@ -73,12 +73,7 @@ fn run_all<R: Threads + Wait + Sync>(
     )
 }
 
-fn write_all<R: Wait>(
-    rt: &R,
-    book: &Book<Diary>,
-    mut writer: Writer,
-    count: u32,
-) -> BookSeat<Diary>
+fn write_all<R: Wait>(rt: &R, book: &Book<Diary>, mut writer: Writer, count: u32) -> BookSeat<Diary>
     requires { seat_book writer.seat ≡ book_id book.now }
     ensures { IsSeatOutside book.now result }
 {

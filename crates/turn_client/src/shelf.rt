@@ -53,7 +53,7 @@ impl Shelf {
         ensures own { OnOk result ((p : _) (q : _) →
             slice_get self.old.seats.items k ≡ Some p → slice_get self.new.seats.items k ≡ Some q →
             own_entries (λ e. e.author) q
-                ≡ own_entries (λ e. e.author) p ++ record { author = self.old.author; number = n } ∷ []) }
+            ≡ own_entries (λ e. e.author) p ++ record { author = self.old.author; number = n } ∷ []) }
     {
         let book: &Book<Diary> = &self.books[k];
         write_at(rt, book, &mut self.seats[k], self.author, n)

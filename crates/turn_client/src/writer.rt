@@ -24,7 +24,7 @@ impl Writer {
         ensures author { self.new.author ≡ self.old.author }
         ensures own { MatchResult result
             (λ _. own_entries (λ e. e.author) self.new.seat
-                ≡ own_entries (λ e. e.author) self.old.seat ++ record { author = self.old.author; number = n } ∷ [])
+            ≡ own_entries (λ e. e.author) self.old.seat ++ record { author = self.old.author; number = n } ∷ [])
             (λ _. own_entries (λ e. e.author) self.new.seat ≡ own_entries (λ e. e.author) self.old.seat) }
     {
         write_at(rt, book, &mut self.seat, self.author, n)
@@ -43,7 +43,7 @@ pub fn write_at<R: Wait>(
     ensures seat { IsSameSeat seat.old seat.new × IsOutside seat.new }
     ensures own { MatchResult result
         (λ _. own_entries (λ e. e.author) seat.new
-            ≡ own_entries (λ e. e.author) seat.old ++ record { author = author; number = n } ∷ [])
+        ≡ own_entries (λ e. e.author) seat.old ++ record { author = author; number = n } ∷ [])
         (λ _. own_entries (λ e. e.author) seat.new ≡ own_entries (λ e. e.author) seat.old) }
 {
     let mut diary = book.enter(rt, seat);
