@@ -1,6 +1,6 @@
 -- The steps of a lawful session stay inside its partition.
-use Rattle.std.proofs.Common.{◌≡◌, ℕ, zero, suc, ◌+◌, ◌-◌, ◌<◌, Bool, true, false, not, ◌==◌, ◌&&◌, nat_le, subst, List, [], ◌∷◌, Option, Some, None, cond, length, map, get_or, refl, sym, ap, ◌∙◌, arith, IsTrue, IsFalse}
-use Rattle.std.specs.List.{AllByRecursion, range_with_len}
+use Rattle.std.proofs.Common.{◌≡◌, ℕ, zero, suc, ◌+◌, ◌-◌, ◌<◌, Bool, true, false, not, ◌==◌, ◌&&◌, nat_le, nat_lt, subst, List, [], ◌∷◌, Option, Some, None, cond, length, map, get_or, refl, sym, ap, ◌∙◌, arith, IsTrue, IsFalse}
+use Rattle.std.specs.List.{AllByRecursion, list_all, range_with_len}
 use Rattle.host_block.specs.declared.range.Range.{Range}
 use Rattle.host_block.specs.declared.op.Op.{Op}
 use Rattle.host_block.specs.declared.op.Op.TheVariants as op
@@ -19,7 +19,7 @@ use Rattle.host_model.specs.Session.{Session}
 use Rattle.host_model.specs.Taking.{row_at}
 use Rattle.host_model.specs.Verdict.{is_within, checks, first_check, judged, verdict_of}
 use Rattle.host_record.specs.Command.{opcode, names_blocks}
-use Rattle.std.proofs.lemmas.Bool.{leb-true, eqb-true}
+use Rattle.std.proofs.lemmas.Bool.{leb-true, eqb-true, eq-eqb, ltb-true}
 use Rattle.host_model.proofs.Growth.{verdict_at}
 use Rattle.host_model.proofs.ListTests.{both}
 use Rattle.std.proofs.lemmas.List.{get_or-map}
@@ -124,13 +124,32 @@ row_verdict s h i p =
     ∙ ap (λ vs. get_or vs i (Refused Io)) h.taken.verdicts
     ∙ verdict_at (requests s.log) (given_before s.log) s.range (length s.rows) i (Refused Io) p
 
--- each step of a lawful session stays inside its partition
-session_stays : (s : Session) → IsLawfulSession s → (i : ℕ) → i < length s.rows
+-- so do the steps of a record that was taken
+record_stays : (s : Session) → IsLawfulSession s → (i : ℕ) → i < length s.rows
     → AllByRecursion (λ (st : Step). StaysIn s.range st.op st.block) (steps_of i s.steps)
-session_stays s h i p =
+record_stays s h i p =
     steps_stay s.range (asked_in s i) (steps_of i s.steps)
     (accepted_stay s.range _ (request_at (requests s.log) i) (row_at s.rows i).verdict (sym (row_verdict s h i p)))
     (h.carried.each i p).steps
 
+-- ---- from the steps of each record to all steps
+
+later : (P : Step → Type 0) (x : Step) (rest : List Step) (b : Bool) → AllByRecursion P (cond b (x ∷ rest) rest) → AllByRecursion P rest
+later P x rest true h = h.1
+later P x rest false h = h
+
+first : (P : Step → Type 0) (x : Step) (rest : List Step) (b : Bool) → b ≡ true → AllByRecursion P (cond b (x ∷ rest) rest) → P x
+first P x rest true e h = h.0
+first P x rest false e h = absurd (cc e)
+
+of_records : (P : Step → Type 0) (n : ℕ) (xs : List Step) → list_all (λ step. nat_lt step.index n) xs ≡ true → ((i : ℕ) → i < n → AllByRecursion P (steps_of i xs)) → AllByRecursion P xs
+of_records P n [] e h = tt
+of_records P n (x ∷ xs) e h =
+    let t : IsTrue (nat_lt x.index n) × IsTrue (list_all (λ step. nat_lt step.index n) xs) = both _ _ e in
+    (
+      first P x (steps_of x.index xs) (x.index == x.index) (eq-eqb x.index x.index refl) (h x.index (ltb-true x.index n t.0)),
+      of_records P n xs t.1 (λ i p. later P x (steps_of i xs) (x.index == i) (h i p)),
+    )
+
 pub steps_stay_inside : StepsStayInside
-steps_stay_inside s h i p = session_stays s h i p
+steps_stay_inside s h = of_records (λ st. StaysIn s.range st.op st.block) (length s.rows) s.steps h.carried.others (record_stays s h)

@@ -12,7 +12,6 @@ use Rattle.host_model.specs.declared.step.Step.{Step}
 use Rattle.host_model.specs.declared.verdict.Verdict.{Verdict}
 use Rattle.host_model.specs.declared.verdict.Verdict.TheVariants.{Accepted, Refused}
 use Rattle.host_model.specs.Answers.{answer_bytes}
-use Rattle.host_model.specs.Carrying.{steps_of}
 use Rattle.host_model.specs.Groups.{owed}
 use Rattle.host_model.specs.LawfulSession.{IsLawfulSession}
 use Rattle.host_model.specs.Lists.{count}
@@ -45,8 +44,7 @@ StaysIn range Flush block = ⊤
 StaysIn range _ block = (range.first ≤ block) × (block < range.first + range.count)
 
 abbrev pub StepsStayInside : Type 0
-StepsStayInside = (s : Session) → IsLawfulSession s → (i : ℕ) → i < length s.rows
-    → AllByRecursion (λ (step : Step). StaysIn s.range step.op step.block) (steps_of i s.steps)
+StepsStayInside = (s : Session) → IsLawfulSession s → AllByRecursion (λ (step : Step). StaysIn s.range step.op step.block) s.steps
 
 -- ---- answers
 

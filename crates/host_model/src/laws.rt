@@ -6,7 +6,7 @@ pub fn first_check_decides()
     ensures { FirstCheckDecides }
 {}
 
-/// Each step of a record that was taken lies inside the session's partition.
+/// Each step of a lawful session but a flush lies inside the session's partition.
 pub fn steps_stay_inside()
     ensures { StepsStayInside }
 {}
