@@ -1,5 +1,6 @@
 -- What stays as logs and stories grow at their end.
-use Rattle.std.proofs.Common.{◌≡◌, ℕ, zero, suc, ◌+◌, ◌≤◌, ◌<◌, Bool, ◌&&◌, List, [], ◌∷◌, ◌++◌, Option, None, Some, is_some, cond, length, get_or, refl, sym, ap, ◌∙◌, arith, length-append, append_assoc, append-nil}
+use Rattle.std.proofs.Common.{◌≡◌, ℕ, zero, suc, ◌+◌, ◌≤◌, ◌<◌, Bool, ◌&&◌, List, [], ◌∷◌, ◌++◌, Option, None, is_some, position, cond, length, get_or, refl, sym, ap, ◌∙◌, arith, length-append, append_assoc, append-nil}
+use Rattle.std.specs.List.{zip}
 use Rattle.std.proofs.Math.Bool.{and-true, and_assoc}
 use Rattle.std.proofs.Common.{inl, inr, ◌⊎◌}
 use Rattle.std.proofs.Math.Nat.{eq-or-lt_of_le}
@@ -10,7 +11,7 @@ use Rattle.host_record.specs.declared.request.Request.{Request}
 use Rattle.host_model.specs.declared.verdict.Verdict.{Verdict}
 use Rattle.host_model.specs.Lists.{all_after, all_with_before}
 use Rattle.host_model.specs.Log.{request_at}
-use Rattle.host_model.specs.Verdict.{verdicts_on, verdict_after, is_closed, judged, close_from, closes}
+use Rattle.host_model.specs.Verdict.{verdicts_on, verdict_after, is_closed, judged, closes}
 use Rattle.host_record.specs.Request.{request_of}
 
 -- the last element passes, and those before it as before
@@ -32,15 +33,15 @@ length-verdicts_on rs lent range (suc n) =
     ∙ ap (λ k. k + 1) (length-verdicts_on rs lent range n) ∙ omega arith
 
 -- records sent later close nothing for the first ones
-pub close_from-append : (n v : ℕ) (rs more : List Request) (verdicts : List Verdict) → length verdicts ≤ length rs → close_from n v (rs ++ more) verdicts ≡ close_from n v rs verdicts
-close_from-append n v [] [] [] h = refl
-close_from-append n v [] (m ∷ more) [] h = refl
-close_from-append n v [] more (d ∷ ds) h = absurd (omega (arith, h))
-close_from-append n v (r ∷ rs) more [] h = refl
-close_from-append n v (r ∷ rs) more (d ∷ ds) h = ap (λ found. cond (closes v r d) (Some n) found) (close_from-append (n + 1) v rs more ds (omega (arith, h)))
+zip-more : {A B : Type 0} (xs more : List A) (ys : List B) → length ys ≤ length xs → zip (xs ++ more) ys ≡ zip xs ys
+zip-more [] [] [] h = refl
+zip-more [] (m ∷ more) [] h = refl
+zip-more [] more (y ∷ ys) h = absurd (omega (arith, h))
+zip-more (x ∷ xs) more [] h = refl
+zip-more (x ∷ xs) more (y ∷ ys) h = ap (λ rest. (x, y) ∷ rest) (zip-more xs more ys (omega (arith, h)))
 
 pub is_closed-append : (v : ℕ) (rs more : List Request) (verdicts : List Verdict) → length verdicts ≤ length rs → is_closed v (rs ++ more) verdicts ≡ is_closed v rs verdicts
-is_closed-append v rs more verdicts h = ap is_some (close_from-append 0 v rs more verdicts h)
+is_closed-append v rs more verdicts h = ap (λ pairs. is_some (position (λ p. closes v p.0 p.1) pairs)) (zip-more rs more verdicts h)
 
 -- and change no verdict
 verdict_after-append : (rs more : List Request) (lent : ℕ → ℕ → Option ℕ) (range : Range) (earlier : List Verdict) (n : ℕ) → n < length rs → length earlier ≤ length rs

@@ -14,6 +14,7 @@ use Rattle.host_model.specs.declared.verdict.Verdict.TheVariants.{Accepted, Refu
 use Rattle.host_model.specs.Laws.{StaysIn, StepsStayInside}
 use Rattle.host_model.specs.Carrying.{Ask, asked, asked_by, for_each_block, carries_out, is_step_for, same_op, steps_of, asked_in}
 use Rattle.host_model.specs.LawfulSession.{IsLawfulSession}
+use Rattle.host_model.specs.Lists.{is_nil}
 use Rattle.host_model.specs.Log.{requests, request_at, given_before}
 use Rattle.host_model.specs.Session.{Session}
 use Rattle.host_model.specs.Taking.{row_at}
@@ -106,16 +107,20 @@ made range ask step e h =
     let q : IsTrue (step.k == ask.k) × IsTrue (same_op step.op ask.op) = both _ _ p.0 in
     subst (λ o. StaysIn range o step.block) (sym (same_op_is step.op ask.op q.1)) (subst (λ b. StaysIn range ask.op b) (sym (eqb-true step.block ask.block p.1)) h)
 
+rest_stays : (range : Range) (asks : List Ask) (steps : List Step) (faulted : Bool) → cond faulted (is_nil steps) (carries_out asks steps) ≡ true
+    → (carries_out asks steps ≡ true → AllByRecursion (λ (st : Step). StaysIn range st.op st.block) steps) → AllByRecursion (λ (st : Step). StaysIn range st.op st.block) steps
+rest_stays range asks [] faulted e h = tt
+rest_stays range asks (step ∷ steps) true e h = absurd (cc e)
+rest_stays range asks (step ∷ steps) false e h = h e
+
 -- so do the steps that carry it out
 pub steps_stay : (range : Range) (asks : List Ask) (steps : List Step) → AllByRecursion (λ (a : Ask). StaysIn range a.op a.block) asks
     → carries_out asks steps ≡ true → AllByRecursion (λ (st : Step). StaysIn range st.op st.block) steps
 steps_stay range asks [] h e = tt
 steps_stay range [] (step ∷ steps) h e = absurd (cc e)
-steps_stay range (ask ∷ asks) (step ∷ []) h e = (made range ask step e h.0, tt)
-steps_stay range (ask ∷ asks) (step ∷ next ∷ steps) h e =
-    let p : IsTrue (is_step_for ask step && not step.faulted) × IsTrue (carries_out asks (next ∷ steps)) = both _ _ e in
-    let q : IsTrue (is_step_for ask step) × IsTrue (not step.faulted) = both _ _ p.0 in
-    (made range ask step q.0 h.0, steps_stay range asks (next ∷ steps) h.1 p.1)
+steps_stay range (ask ∷ asks) (step ∷ steps) h e =
+    let p : IsTrue (is_step_for ask step) × IsTrue (cond step.faulted (is_nil steps) (carries_out asks steps)) = both _ _ e in
+    (made range ask step p.0 h.0, rest_stays range asks steps step.faulted p.1 (λ g. steps_stay range asks steps h.1 g))
 
 -- the row of a record has its verdict
 pub row_verdict : (s : Session) → IsLawfulSession s → (i : ℕ) → i < length s.rows → (row_at s.rows i).verdict ≡ verdict_of s.log s.range i
@@ -145,8 +150,7 @@ first P x rest false e h = absurd (cc e)
 of_records : (P : Step → Type 0) (n : ℕ) (xs : List Step) → list_all (λ step. nat_lt step.index n) xs ≡ true → ((i : ℕ) → i < n → AllByRecursion P (steps_of i xs)) → AllByRecursion P xs
 of_records P n [] e h = tt
 of_records P n (x ∷ xs) e h =
-    let t : IsTrue (nat_lt x.index n) × IsTrue (list_all (λ step. nat_lt step.index n) xs) = both _ _ e in
-    (
+    let t : IsTrue (nat_lt x.index n) × IsTrue (list_all (λ step. nat_lt step.index n) xs) = both _ _ e in (
       first P x (steps_of x.index xs) (x.index == x.index) (eq-eqb x.index x.index refl) (h x.index (ltb-true x.index n t.0)),
       of_records P n xs t.1 (λ i p. later P x (steps_of i xs) (x.index == i) (h i p)),
     )

@@ -1,5 +1,5 @@
 -- The answers that a client is due.
-use Rattle.std.specs.Prelude.{ℕ, Bool, nat_lt, if◌then◌else◌, List, [], ◌∷◌, map, length, take, filter, ◌≤◌, IsTrue}
+use Rattle.std.specs.Prelude.{ℕ, Bool, true, false, nat_lt, if◌then◌else◌, List, find, map, unwrap_or, length, take, filter, ◌≤◌, IsTrue}
 use Rattle.std.specs.Str.{bytes_eq}
 use Rattle.host_record.specs.declared.request.Request.{Request}
 use Rattle.host_record.specs.declared.response.Response.{Response}
@@ -15,11 +15,13 @@ use Rattle.host_model.specs.Log.{requests, request_at, received}
 use Rattle.host_model.specs.Session.{Session}
 use Rattle.host_model.specs.Taking.{row_at, is_drain}
 
+abbrev pub is_failure : Status → Bool
+is_failure status.Ok = false
+is_failure _ = true
+
 -- the first that isn't Ok, else Ok
 abbrev pub first_failure : List Status → Status
-first_failure [] = status.Ok
-first_failure (status.Ok ∷ outcomes) = first_failure outcomes
-first_failure (failure ∷ outcomes) = failure
+first_failure outcomes = unwrap_or (find is_failure outcomes) status.Ok
 
 -- the answer of owing record i: the status of the first of its records that failed, and how many it answers
 abbrev pub answer : List Request → List TakenRow → ℕ → Response

@@ -1,5 +1,5 @@
 -- How a record is carried out by steps of the device, and its outcome.
-use Rattle.std.specs.Prelude.{ℕ, ◌+◌, Bool, true, false, not, ◌==◌, ◌&&◌, if◌then◌else◌, List, [], ◌∷◌, map, filter, length, nat_lt, Option, Some, None, IsTrue, ◌≡◌, ◌<◌}
+use Rattle.std.specs.Prelude.{ℕ, ◌+◌, Bool, true, false, ◌==◌, ◌&&◌, if◌then◌else◌, List, [], ◌∷◌, map, filter, length, nat_lt, Option, Some, None, IsTrue, ◌≡◌, ◌<◌}
 use Rattle.std.specs.List.{list_all}
 use Rattle.host_block.specs.declared.range.Range.{Range}
 use Rattle.host_block.specs.declared.op.Op.{Op}
@@ -13,7 +13,7 @@ use Rattle.host_record.specs.Command.{opcode}
 use Rattle.host_model.specs.declared.step.Step.{Step}
 use Rattle.host_model.specs.declared.verdict.Verdict.{Verdict}
 use Rattle.host_model.specs.declared.verdict.Verdict.TheVariants.{Accepted, Refused}
-use Rattle.host_model.specs.Lists.{below}
+use Rattle.host_model.specs.Lists.{below, is_nil}
 use Rattle.host_model.specs.Log.{requests, request_at}
 use Rattle.host_model.specs.Session.{Session}
 use Rattle.host_model.specs.Taking.{row_at}
@@ -52,12 +52,11 @@ same_op _ _ = false
 abbrev pub is_step_for : Ask → Step → Bool
 is_step_for ask step = step.k == ask.k && same_op step.op ask.op && step.block == ask.block
 
--- the steps made are the first of those asked for, and only the last may be faulted
+-- the steps made are the first of those asked for, and none comes after a faulted one
 abbrev pub carries_out : List Ask → List Step → Bool
 carries_out asks [] = true
 carries_out [] (step ∷ steps) = false
-carries_out (ask ∷ asks) (step ∷ []) = is_step_for ask step
-carries_out (ask ∷ asks) (step ∷ next ∷ steps) = is_step_for ask step && not step.faulted && carries_out asks (next ∷ steps)
+carries_out (ask ∷ asks) (step ∷ steps) = is_step_for ask step && (if step.faulted then is_nil steps else carries_out asks steps)
 
 -- how it ended: at a fault, short of memory, or with every step made
 abbrev pub ended : List Ask → List Step → Status

@@ -1,5 +1,6 @@
 -- The verdict on a record, by the first check that fails.
-use Rattle.std.specs.Prelude.{ℕ, zero, suc, ◌+◌, ◌-◌, Bool, true, false, not, ◌==◌, ◌&&◌, nat_le, if◌then◌else◌, List, [], ◌∷◌, ◌++◌, length, Option, Some, None, is_none, is_some, unwrap_or}
+use Rattle.std.specs.Prelude.{ℕ, zero, suc, ◌-◌, Bool, true, false, not, ◌==◌, ◌&&◌, nat_le, if◌then◌else◌, List, [], ◌∷◌, ◌++◌, length, Option, None, is_none, is_some, unwrap_or, position}
+use Rattle.std.specs.List.{zip}
 use Rattle.host_block.specs.declared.range.Range.{Range}
 use Rattle.host_record.specs.declared.request.Request.{Request}
 use Rattle.host_record.specs.declared.status.Status.{Status}
@@ -48,14 +49,13 @@ is_accepted (Refused status) = false
 abbrev pub closes : ℕ → Request → Verdict → Bool
 closes v r verdict = is_accepted verdict && is_close (opcode r) && r.vmoid == v
 
--- the first of these requests, numbered from n, that closes buffer v by its verdict
-abbrev pub close_from : ℕ → ℕ → List Request → List Verdict → Option ℕ
-close_from n v (r ∷ rs) (verdict ∷ verdicts) = if closes v r verdict then Some n else close_from (n + 1) v rs verdicts
-close_from n v _ _ = None
+-- the first of these requests that closes buffer v by its verdict
+abbrev pub close_in : ℕ → List Request → List Verdict → Option ℕ
+close_in v rs verdicts = position (λ p. closes v p.0 p.1) (zip rs verdicts)
 
 -- whether one of these requests closed buffer v
 abbrev pub is_closed : ℕ → List Request → List Verdict → Bool
-is_closed v rs verdicts = is_some (close_from 0 v rs verdicts)
+is_closed v rs verdicts = is_some (close_in v rs verdicts)
 
 -- The verdict on record i after the verdicts on those before it. lent i v has the pages of buffer v, where it was given
 -- before record i was sent. A buffer is attached for a record where it was given before and no record before closed it.
@@ -79,4 +79,4 @@ verdict_of log range i = verdict_after (requests log) (given_before log) range (
 
 -- the record that closes buffer v, among all that were sent
 abbrev pub close_of : List Event → Range → ℕ → Option ℕ
-close_of log range v = close_from 0 v (requests log) (verdicts log range (length (sent log)))
+close_of log range v = close_in v (requests log) (verdicts log range (length (sent log)))
