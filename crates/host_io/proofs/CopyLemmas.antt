@@ -3,11 +3,11 @@ use Rattle.std.proofs.Common.{◌≡◌, ℕ, zero, suc, ◌+◌, ◌*◌, ◌/�
 use Rattle.std.specs.List.{flat_map}
 use Rattle.std.proofs.lemmas.List.{take_more, take_all, flat_map_more, take_at, drop_at}
 use Rattle.std.proofs.lemmas.Nat.{div-mul-add}
-use Rattle.std.proofs.lemmas.List.Elements.{All-head, All-tail}
+use Rattle.std.proofs.lemmas.List.Elements.{All-head, All-tail, All-from_get_or}
 use Rattle.host_block.specs.Disk.{IsImage, fresh, block_at}
 use Rattle.host_io.specs.Copies.{joined, bytes_of}
 use Rattle.host_io.specs.Flat.{cut}
-use Rattle.host_io.specs.Laws.{FreshBytes, JoinedIsCut}
+use Rattle.host_io.specs.Laws.{FreshBytes, FreshIsImage, JoinedIsCut}
 
 front : (image : List (List ℕ)) (n : ℕ) → n ≤ length image → bytes_of (fresh image) n ≡ flat_map (λ b. b) (take n image)
 front image zero within = refl
@@ -20,6 +20,9 @@ front image (suc n) within =
 
 pub fresh_bytes_proof : FreshBytes
 fresh_bytes_proof image = front image (length image) (omega arith) ∙ ap (λ (l : List (List ℕ)). flat_map (λ b. b) l) (take_all (length image) image (omega arith))
+
+pub fresh_is_image_proof : FreshIsImage
+fresh_is_image_proof blocks size image of_size = All-from_get_or (λ (block : List ℕ). length block ≡ size) image [] (λ b within. of_size.each b (omega (arith, within, of_size.count)))
 
 pub length-joined : (size : ℕ) (image : List (List ℕ)) → IsImage size image → length (joined image) ≡ length image * size
 length-joined size [] whole = let none : 0 ≡ 0 * size = omega arith in none

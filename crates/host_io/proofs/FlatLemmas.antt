@@ -3,6 +3,7 @@ use Rattle.std.proofs.Common.{◌≡◌, ◌≢◌, inl, inr, ℕ, zero, suc, �
 use Rattle.std.specs.Prelude.{All}
 use Rattle.std.proofs.lemmas.Nat.{mul-le}
 use Rattle.std.proofs.lemmas.List.{drop_more, get_or-set_same, get_or-set_other, take_at, drop_at, drop-drop, take-take, drop-take, take-map, drop-map, length-take-le, take-append-drop}
+use Rattle.std.proofs.lemmas.Slice.{drop-append-drop}
 use Rattle.std.proofs.lemmas.List.Elements.{All-head, All-tail, All-take}
 use Rattle.host_block.specs.Disk.{DiskState, picked, block_at, settled, overwritten, read_of, fresh, synced, part_synced}
 use Rattle.host_block.proofs.DiskLemmas.{put_here, put_elsewhere, length-picked}
@@ -15,6 +16,21 @@ use Rattle.host_io.specs.declared.flat.Waiting.{Waiting}
 pub length-put_at : (size : ℕ) (bytes : List ℕ) (w : ℕ × List ℕ) → w.0 * size + size ≤ length bytes → length w.1 ≡ size → length (put_at size bytes w) ≡ length bytes
 length-put_at size bytes w within long =
     omega (arith, length-append (take (w.0 * size) bytes ++ w.1) (drop (w.0 * size + size) bytes), length-append (take (w.0 * size) bytes) w.1, length-drop (w.0 * size + size) bytes, length-take-le (w.0 * size) bytes (omega arith))
+
+-- a block put into its place leaves the bytes behind the last block
+pub drop-put_at : (size blocks : ℕ) (bytes : List ℕ) (w : ℕ × List ℕ) → w.0 < blocks → blocks * size ≤ length bytes → length w.1 ≡ size → drop (blocks * size) (put_at size bytes w) ≡ drop (blocks * size) bytes
+drop-put_at size blocks bytes w below whole long =
+    let fits = block_fits w.0 blocks size below in
+    drop-append-drop (w.0 * size + size) bytes (take (w.0 * size) bytes ++ w.1) (blocks * size) fits
+    (omega (arith, length-append (take (w.0 * size) bytes) w.1, length-take-le (w.0 * size) bytes (omega arith)))
+
+pub drop-put_all : (size n : ℕ) (ws : List Waiting) (bytes : List ℕ) → n * size ≤ length bytes → All (IsFitting n size) ws → drop (n * size) (put_all size bytes (pairs_of ws)) ≡ drop (n * size) bytes
+drop-put_all size n [] bytes whole fits = refl
+drop-put_all size n (w ∷ ws) bytes whole fits =
+    let fit = All-head (IsFitting n size) w ws fits in
+    let same_length : length (put_at size bytes (w.block, w.bytes)) ≡ length bytes = length-put_at size bytes (w.block, w.bytes) (omega (arith, block_fits w.block n size fit.0)) fit.1 in
+    drop-put_all size n ws (put_at size bytes (w.block, w.bytes)) (omega arith) (All-tail (IsFitting n size) w ws fits)
+    ∙ drop-put_at size n bytes (w.block, w.bytes) fit.0 whole fit.1
 
 take_sum : (m n : ℕ) (xs : List ℕ) → take (m + n) xs ≡ take m xs ++ take n (drop m xs)
 take_sum m n xs = sym (take-append-drop m (take (m + n) xs)) ∙ (λ i. take-take m (m + n) xs (omega arith) i ++ drop-take m n xs i)

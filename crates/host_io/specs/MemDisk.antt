@@ -1,5 +1,5 @@
 -- What a disk in memory tells, and where it fails.
-use Rattle.std.specs.Prelude.{◌≡◌, ◌↔◌, ◌==◌, ℕ, Bool, true, false, if◌then◌else◌, List, [], length, min, Option, Result, IsOk, OnErr, IsErr, IsErrOf, IsSome, IsNone, unwrap_or}
+use Rattle.std.specs.Prelude.{◌≡◌, ◌↔◌, ◌==◌, ℕ, Bool, true, false, if◌then◌else◌, ◌*◌, List, [], length, drop, min, Option, Result, IsOk, OnErr, IsErr, IsErrOf, IsSome, IsNone, unwrap_or}
 use Rattle.host_block.specs.Disk.{DiskState, added, part_synced}
 use Rattle.host_io.specs.Disks.{Shape, no_counts}
 use Rattle.host_io.specs.Flat.{cut, image_of, put_all}
@@ -17,6 +17,10 @@ opening_of d = d.opening.value.items
 -- its present content: its durable bytes with all waiting writes put in
 abbrev pub held_by : MemDisk → List ℕ
 held_by d = put_all d.size d.bytes.items (pairs_of d.waiting.items)
+
+-- the bytes behind its last whole block
+abbrev pub rest_of : MemDisk → List ℕ
+rest_of d = drop (d.blocks * d.size) d.bytes.items
 
 -- the blocks that an attach at this size gives, under any name
 abbrev pub image_held : MemDisk → List ℕ → ℕ → List (List ℕ)

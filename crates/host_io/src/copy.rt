@@ -3,7 +3,7 @@ ghost use Rattle.std.specs.Prelude.{◌≡◌, ◌*◌, [], IsTrue, length, IfOk
 ghost use Rattle.host_io.specs.Causes.{Rose};
 ghost use Rattle.host_io.specs.Copies.{bytes_of};
 ghost use Rattle.host_io.specs.Disks.{OnlyReads};
-ghost use Rattle.host_io.specs.Laws.{FreshBytes, JoinedIsCut};
+ghost use Rattle.host_io.specs.Laws.{FreshBytes, FreshIsImage, JoinedIsCut};
 ghost use Rattle.host_io.specs.declared.disk.DiskError.TheVariants.{Failed};
 
 use crate::{Disk, DiskError};
@@ -70,6 +70,11 @@ fn read_blocks<D: Disk>(
 /// The bytes read from a disk that was just attached are those of its image.
 pub fn fresh_bytes()
     ensures { FreshBytes }
+{}
+
+/// The blocks that an attach gave are of the disk's size.
+pub fn fresh_is_image()
+    ensures { FreshIsImage }
 {}
 
 /// Blocks of one size that were joined are cut apart into the same blocks.

@@ -13,7 +13,7 @@ mod mem_source;
 mod sink;
 mod source;
 
-pub use copy::{copy_image, fresh_bytes, joined_is_cut};
+pub use copy::{copy_image, fresh_bytes, fresh_is_image, joined_is_cut};
 pub use counts::Counts;
 pub use disk::{Disk, DiskError};
 pub use fails::{CallKind, FailAt};

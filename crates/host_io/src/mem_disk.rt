@@ -27,10 +27,10 @@ pub struct MemDisk {
 }
 
 impl MemDisk {
-    ghost use Rattle.std.specs.Prelude.{◌≡◌, IsTrue, IfOk, []};
+    ghost use Rattle.std.specs.Prelude.{◌≡◌, ◌*◌, IsTrue, IfOk, [], drop};
     ghost use Rattle.host_block.specs.Disk.{IsPicked};
     ghost use Rattle.host_io.specs.Flat.{image_of};
-    ghost use Rattle.host_io.specs.MemDisk.{opening_of, counts_of, shape_of, state_of, IsMadeOf};
+    ghost use Rattle.host_io.specs.MemDisk.{opening_of, counts_of, shape_of, state_of, rest_of, IsMadeOf};
 
     /// A disk that holds these bytes under any name, and fails at the listed calls.
     pub fn new(alloc: Global, bytes: Vec<u8>, fails: Vec<FailAt>) -> MemDisk
@@ -65,6 +65,7 @@ impl MemDisk {
     /// else the bytes of that pending write to it, counted from 1, or of the last where they are fewer.
     pub fn crash(&self, picks: &[u32]) -> Result<MemDisk, Oom>
         ensures made { IfOk result (λ d. IsMadeOf (opening_of d) [] d) }
+        ensures rest { IfOk result (λ d. drop ((shape_of self.now).blocks * (shape_of self.now).size) (opening_of d) ≡ rest_of self.now) }
         ensures left { IsTrue (shape_of self.now).attached → IfOk result (λ d. IsPicked (state_of self.now) picks.now (image_of (shape_of self.now).size (opening_of d))) }
     {
         let mut bytes = match self.bytes.to_vec(self.alloc) {
@@ -93,7 +94,7 @@ impl Disk for MemDisk {
     ghost use Rattle.host_io.specs.Disks.{Calls, read_counted, write_counted, sync_counted, outcome_of, Attaches, Reads};
     ghost use Rattle.host_io.specs.Fails.{part_listed};
     ghost use Rattle.host_io.specs.FlatShape.{cut_of_size};
-    ghost use Rattle.host_io.specs.MemDisk.{opening_of, counts_of, shape_of, state_of, image_held, never_fails_of, fails_of, attaches_of, FailsAsListed, WritesAsListed, SyncsAsListed};
+    ghost use Rattle.host_io.specs.MemDisk.{opening_of, counts_of, shape_of, state_of, image_held, held_by, rest_of, never_fails_of, fails_of, attaches_of, FailsAsListed, WritesAsListed, SyncsAsListed};
     ghost use Rattle.host_io.specs.declared.fails.CallKind.TheVariants as kind;
 
     ghost shape = { shape_of };
@@ -123,6 +124,7 @@ impl Disk for MemDisk {
         ensures fails { FailsAsListed (part_listed (fails_of self.old) kind.Attach (next_count (attaches_of self.old))) result }
         ensures listed { fails_of self.new ≡ fails_of self.old }
         ensures attempts { attaches_of self.new ≡ next_count (attaches_of self.old) }
+        ensures held { held_by self.new ≡ held_by self.old }
         ensures same { OnErr result (shape_of self.new ≡ shape_of self.old) }
         ensures left { OnErr result (state_of self.new ≡ state_of self.old) }
     {
@@ -150,6 +152,7 @@ impl Disk for MemDisk {
         // What no disk owes but this one.
         ensures fails { FailsAsListed (part_listed (fails_of self.old) kind.Read (next_count (counts_of self.old).reads)) result }
         ensures listed { fails_of self.new ≡ fails_of self.old }
+        ensures rest { rest_of self.new ≡ rest_of self.old }
     {
         self.counts.reads = self.counts.reads.saturating_add(1);
         if failing_part(&self.fails, CallKind::Read, self.counts.reads).is_some() {
@@ -171,6 +174,7 @@ impl Disk for MemDisk {
         // What no disk owes but this one.
         ensures fails { WritesAsListed (part_listed (fails_of self.old) kind.Write (next_count (counts_of self.old).writes)) (state_of self.old) (state_of self.new) b from.now result }
         ensures listed { fails_of self.new ≡ fails_of self.old }
+        ensures rest { rest_of self.new ≡ rest_of self.old }
     {
         self.counts.writes = self.counts.writes.saturating_add(1);
         let fails = failing_part(&self.fails, CallKind::Write, self.counts.writes);
@@ -192,6 +196,7 @@ impl Disk for MemDisk {
         // What no disk owes but this one.
         ensures fails { SyncsAsListed (part_listed (fails_of self.old) kind.Sync (next_count (counts_of self.old).syncs)) (state_of self.old) (state_of self.new) result }
         ensures listed { fails_of self.new ≡ fails_of self.old }
+        ensures rest { rest_of self.new ≡ rest_of self.old }
     {
         self.counts.syncs = self.counts.syncs.saturating_add(1);
         match failing_part(&self.fails, CallKind::Sync, self.counts.syncs) {

@@ -11,10 +11,10 @@ pub loop-b-preserved : goal.loop-b-preserved
 loop-b-preserved c =
     let d = c.args.self.now in
     let put : c.put_pick.new.bytes.items ≡ put_at d.size c.loop-b.bytes.items (c.loop-b.b, picked (pairs_of d.waiting.items) c.loop-b.b c.pick_at.result (block_at (cut d.size d.blocks d.bytes.items) c.loop-b.b)) =
-    c.put_pick.ensures
+    c.put_pick.ensures.put
     ∙ (λ i. put_at d.size c.loop-b.bytes.items (c.loop-b.b, picked (pairs_of (c.deref-in-loop-b-2.ensures.value i)) c.loop-b.b c.pick_at.result (block_at (cut d.size d.blocks (c.deref-in-loop-b.ensures.value i)) c.loop-b.b))) in
     let more = picks_more d.size d.blocks c.loop-b.b c.pick_at.result d.bytes.items c.loop-b.bytes.items c.put_pick.new.bytes.items d.waiting.items c.args.picks.now d.whole c.loop-b.invariant.long d.fitting c.loop-b-test.true c.pick_at.ensures put c.loop-b.invariant.done in
-    record { long = more.0; done = more.1 }
+    record { long = more.0; rest = c.put_pick.ensures.rest ∙ c.loop-b.invariant.rest; done = more.1 }
 
 pub returns-clause-left : goal.returns-clause-left
 returns-clause-left c attached =
