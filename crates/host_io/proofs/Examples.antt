@@ -1,11 +1,12 @@
 -- The definitions computed on small values: bytes cut into blocks of two.
-use Rattle.std.proofs.Common.{◌≡◌, ◌^◌, ◌-◌, ℕ, List, [], ◌∷◌, refl, Some, None}
+use Rattle.std.proofs.Common.{◌≡◌, ◌^◌, ◌-◌, ℕ, List, [], ◌∷◌, refl, Some, None, Ok, Err}
 use Rattle.host_block.specs.Disk.{fresh, added}
-use Rattle.host_io.specs.Causes.{next_count}
+use Rattle.host_io.specs.Causes.{next_count, faults_after}
 use Rattle.host_io.specs.Copies.{joined, bytes_of}
 use Rattle.host_io.specs.Fails.{part_listed}
 use Rattle.host_io.specs.Flat.{image_of, put_all}
-use Rattle.host_io.specs.MemDisk.{part_written}
+use Rattle.host_io.specs.MemDisk.{part_written, faults_counted}
+use Rattle.host_io.specs.declared.disk.DiskError.TheVariants.{Oom}
 use Rattle.host_io.specs.declared.fails.CallKind.TheVariants.{Read, Write, Sync}
 use Rattle.host_io.specs.declared.fails.FailAt.{FailAt}
 
@@ -14,6 +15,16 @@ one_more = refl
 
 last_count_stays : next_count (2 ^ 64 - 1) ≡ 2 ^ 64 - 1
 last_count_stays = refl
+
+error_counted : faults_after {T = ℕ} {E = ℕ} (Err 1) 7 ≡ 8
+error_counted = refl
+
+answer_not_counted : faults_after {T = ℕ} {E = ℕ} (Ok 1) 7 ≡ 7
+answer_not_counted = refl
+
+-- want of memory is no fault of the disk
+want_not_counted : faults_counted {T = ℕ} (Err Oom) 7 ≡ 7
+want_not_counted = refl
 
 -- the second write fails with nothing done, though it is named again, and the first sync with three writes done
 abbrev fails : List FailAt

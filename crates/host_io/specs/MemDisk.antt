@@ -1,12 +1,13 @@
 -- What a disk in memory tells, and where it fails.
-use Rattle.std.specs.Prelude.{◌≡◌, ◌↔◌, ◌==◌, ℕ, Bool, true, false, if◌then◌else◌, ◌*◌, List, [], length, drop, min, Option, Result, IsOk, OnErr, IsErr, IsErrOf, IsSome, IsNone, unwrap_or}
+use Rattle.std.specs.Prelude.{◌≡◌, ◌↔◌, ◌==◌, ℕ, Bool, true, false, if◌then◌else◌, ◌*◌, List, [], length, drop, min, Option, Result, Ok, Err, IsOk, OnErr, IsErr, IsErrOf, IsSome, IsNone, unwrap_or}
 use Rattle.host_block.specs.Disk.{DiskState, added, part_synced}
+use Rattle.host_io.specs.Causes.{next_count}
 use Rattle.host_io.specs.Disks.{Shape, no_counts}
 use Rattle.host_io.specs.Flat.{cut, image_of, put_all}
 use Rattle.host_io.specs.Waiting.{pairs_of}
 use Rattle.host_io.specs.declared.counts.Counts.{Counts}
 use Rattle.host_io.specs.declared.disk.DiskError.{DiskError}
-use Rattle.host_io.specs.declared.disk.DiskError.TheVariants.{Failed}
+use Rattle.host_io.specs.declared.disk.DiskError.TheVariants.{Failed, Oom}
 use Rattle.host_io.specs.declared.fails.FailAt.{FailAt}
 use Rattle.host_io.specs.declared.mem_disk.MemDisk.{MemDisk}
 
@@ -52,10 +53,17 @@ pub record IsMadeOf (bytes : List ℕ) (fails : List FailAt) (d : MemDisk) : Typ
   pub opening : opening_of d ≡ bytes
   pub held : held_by d ≡ bytes
   pub not_attached : (shape_of d).attached ≡ false
+  pub no_blocks : (shape_of d).blocks ≡ 0
   pub nothing_waits : (state_of d).pending ≡ []
   pub listed : fails_of d ≡ fails
   pub attaches : attaches_of d ≡ 0
   pub counts : counts_of d ≡ no_counts
+
+-- the faults after this answer: one more where the disk failed
+abbrev pub faults_counted : {T : Type 0} → Result T DiskError → ℕ → ℕ
+faults_counted (Ok x) faults = faults
+faults_counted (Err Failed) faults = next_count faults
+faults_counted (Err Oom) faults = faults
 
 -- with a failing write of which so much is done
 abbrev pub part_written : DiskState → ℕ → List ℕ → ℕ → DiskState

@@ -94,7 +94,7 @@ impl Disk for MemDisk {
     ghost use Rattle.host_io.specs.Disks.{Calls, read_counted, write_counted, sync_counted, outcome_of, Attaches, Reads};
     ghost use Rattle.host_io.specs.Fails.{part_listed};
     ghost use Rattle.host_io.specs.FlatShape.{cut_of_size};
-    ghost use Rattle.host_io.specs.MemDisk.{opening_of, counts_of, shape_of, state_of, image_held, held_by, rest_of, never_fails_of, fails_of, attaches_of, FailsAsListed, WritesAsListed, SyncsAsListed};
+    ghost use Rattle.host_io.specs.MemDisk.{opening_of, counts_of, shape_of, state_of, image_held, held_by, rest_of, never_fails_of, fails_of, attaches_of, faults_counted, FailsAsListed, WritesAsListed, SyncsAsListed};
     ghost use Rattle.host_io.specs.declared.fails.CallKind.TheVariants as kind;
 
     ghost shape = { shape_of };
@@ -122,6 +122,7 @@ impl Disk for MemDisk {
         ensures calls { Calls (counts_of self.old) (counts_of self.old) (counts_of self.new) (never_fails_of self.old) (never_fails_of self.new) result }
         // What no disk owes but this one.
         ensures fails { FailsAsListed (part_listed (fails_of self.old) kind.Attach (next_count (attaches_of self.old))) result }
+        ensures faults { (counts_of self.new).faults ≡ faults_counted result (counts_of self.old).faults }
         ensures listed { fails_of self.new ≡ fails_of self.old }
         ensures attempts { attaches_of self.new ≡ next_count (attaches_of self.old) }
         ensures held { held_by self.new ≡ held_by self.old }
@@ -151,6 +152,7 @@ impl Disk for MemDisk {
         ensures calls { Calls (counts_of self.old) (read_counted (counts_of self.old)) (counts_of self.new) (never_fails_of self.old) (never_fails_of self.new) result }
         // What no disk owes but this one.
         ensures fails { FailsAsListed (part_listed (fails_of self.old) kind.Read (next_count (counts_of self.old).reads)) result }
+        ensures faults { (counts_of self.new).faults ≡ faults_counted result (counts_of self.old).faults }
         ensures listed { fails_of self.new ≡ fails_of self.old }
         ensures rest { rest_of self.new ≡ rest_of self.old }
     {
@@ -173,6 +175,7 @@ impl Disk for MemDisk {
         ensures calls { Calls (counts_of self.old) (write_counted (counts_of self.old)) (counts_of self.new) (never_fails_of self.old) (never_fails_of self.new) result }
         // What no disk owes but this one.
         ensures fails { WritesAsListed (part_listed (fails_of self.old) kind.Write (next_count (counts_of self.old).writes)) (state_of self.old) (state_of self.new) b from.now result }
+        ensures faults { (counts_of self.new).faults ≡ faults_counted result (counts_of self.old).faults }
         ensures listed { fails_of self.new ≡ fails_of self.old }
         ensures rest { rest_of self.new ≡ rest_of self.old }
     {
@@ -195,6 +198,7 @@ impl Disk for MemDisk {
         ensures calls { Calls (counts_of self.old) (sync_counted (counts_of self.old)) (counts_of self.new) (never_fails_of self.old) (never_fails_of self.new) result }
         // What no disk owes but this one.
         ensures fails { SyncsAsListed (part_listed (fails_of self.old) kind.Sync (next_count (counts_of self.old).syncs)) (state_of self.old) (state_of self.new) result }
+        ensures faults { (counts_of self.new).faults ≡ faults_counted result (counts_of self.old).faults }
         ensures listed { fails_of self.new ≡ fails_of self.old }
         ensures rest { rest_of self.new ≡ rest_of self.old }
     {

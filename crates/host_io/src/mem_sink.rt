@@ -58,7 +58,7 @@ impl MemSink {
 
 impl Sink for MemSink {
     ghost use Rattle.std.specs.Prelude.{◌≡◌, ◌+◌, ◌↔◌, true, min, length, IsErr, IfOk, Contains};
-    ghost use Rattle.host_io.specs.Causes.{HasCause, next_count};
+    ghost use Rattle.host_io.specs.Causes.{HasCause, faults_after, next_count};
     ghost use Rattle.host_io.specs.MemSink.{sink_appended, sink_faults, sink_room, sink_fails, sink_calls, FailsToPut};
     ghost use Rattle.host_io.specs.Streams.{PutsSome, Puts};
 
@@ -75,6 +75,7 @@ impl Sink for MemSink {
         // What no sink owes but this one.
         ensures fails { IsErr result ↔ FailsToPut self.old from.now }
         ensures count { IfOk result (λ n. n ≡ min (length from.now) (sink_room self.old)) }
+        ensures faults { sink_faults self.new ≡ faults_after result (sink_faults self.old) }
         ensures listed { sink_fails self.new ≡ sink_fails self.old }
         ensures calls { sink_calls self.new ≡ next_count (sink_calls self.old) }
         ensures room { length (sink_appended self.new) + sink_room self.new ≡ length (sink_appended self.old) + sink_room self.old }

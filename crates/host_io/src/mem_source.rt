@@ -33,7 +33,7 @@ impl MemSource {
 
 impl Source for MemSource {
     ghost use Rattle.std.specs.Prelude.{◌≡◌, ◌↔◌, true, min, length, IsErr, IfOk, OnErr, Contains};
-    ghost use Rattle.host_io.specs.Causes.{HasCause, next_count};
+    ghost use Rattle.host_io.specs.Causes.{HasCause, faults_after, next_count};
     ghost use Rattle.host_io.specs.MemSource.{source_left, source_faults, source_fails, source_calls};
     ghost use Rattle.host_io.specs.Streams.{TakesAtMost, Takes};
 
@@ -51,6 +51,7 @@ impl Source for MemSource {
         ensures fails { IsErr result ↔ Contains (source_fails self.old) (next_count (source_calls self.old)) }
         ensures count { IfOk result (λ n. n ≡ min (length into.old) (length (source_left self.old))) }
         ensures left { OnErr result (source_left self.new ≡ source_left self.old) }
+        ensures faults { source_faults self.new ≡ faults_after result (source_faults self.old) }
         ensures listed { source_fails self.new ≡ source_fails self.old }
         ensures calls { source_calls self.new ≡ next_count (source_calls self.old) }
     {
