@@ -1,0 +1,10 @@
+pub mod Crc
+pub mod Entries
+pub mod Errors
+pub mod Header
+pub mod Image
+pub mod Laws
+pub mod Reads
+pub mod Register
+pub mod Sample
+pub mod Table
