@@ -4,7 +4,6 @@ use Rattle.std.proofs.lemmas.List.{map-append, length-map}
 use Rattle.std.specs.Prelude.{Option, Some, None}
 use Rattle.std.specs.Option.{unwrap_or, IsSome, option_to_list}
 use Rattle.std.specs.List.{slice_get, All}
-use Rattle.std.specs.Prelude.{slice_set}
 use Rattle.std.proofs.lemmas.List.Elements.{All-nil, All-cons, All-head, All-tail}
 use Rattle.host_turn.specs.declared.rule.Opening.{Opening}
 use Rattle.host_turn.specs.declared.book.Book.{Book}
@@ -13,14 +12,13 @@ use Rattle.host_turn.specs.declared.view.View.{View}
 use Rattle.host_turn.specs.declared.view.Stage.{Stage}
 use Rattle.host_turn.specs.History.{entries_of, Continues}
 use Rattle.host_turn.specs.Views.{HasNumber, AnyHasSeen, view_after_making, new_seat_view, gathered_view, is_at_rest, members_at, members_of}
-use Rattle.host_turn.specs.Rule.{OneHistory}
-use Rattle.host_turn.specs.Seats.{IsNewSeat, AreNewSeats, AreSeatsAt, IsOutside, IsSameSeat, seat_book, number, seen_by, IsSeenBySome, member_of, IsMaker, IsSeatOutside, HasGathered, book_id, opening_of, seat_count}
+use Rattle.host_turn.specs.Rule.{AreMembers, OneHistory}
+use Rattle.host_turn.specs.Seats.{IsNewSeat, AreNewSeats, AreSeatsAt, IsOutside, seat_book, number, seen_by, IsSeenBySome, member_of, IsMaker, IsSeatOutside, HasGathered, book_id, opening_of, seat_count}
 use Rattle.atomic_table.specs.Seated.{TableId}
 use mathlib.Core.Option.{some, some-injective}
 use lib.ListN.{get_elem?}
 use Rattle.atomic_table.specs.Table.{Final, Seen}
 use Rattle.atomic_table.specs.declared.shared.Seat.{Seat}
-use Rattle.host_turn.proofs.Stepping.{Mems}
 use Rattle.host_turn.proofs.Seating.{ends}
 
 module _ {A : Type 0} where
@@ -44,10 +42,6 @@ module _ {A : Type 0} where
   slice_get_snoc (x ∷ xs) a b (suc j) e = ⊎_elim (λ t. inl t) (λ t. inr (ap suc t.0, t.1)) (slice_get_snoc xs a b j e)
 
 module _ {A : Type 0} where
-  pub no_seats : (xs : List A) → length xs ≡ 0 → xs ≡ []
-  no_seats [] e = refl
-  no_seats (x ∷ xs) e = absurd (omega arith)
-
   slice_get_last : (xs : List A) (a : A) → slice_get (xs ++ a ∷ []) (length xs) ≡ Some a
   slice_get_last [] a = refl
   slice_get_last (x ∷ xs) a = slice_get_last xs a
@@ -69,23 +63,6 @@ module _ {S E F : Type 0} (story : S → List E) (fixed : S → F) (b : TableId)
 
   pub one_seat_more : (n : ℕ) (qs : List (BookSeat S E F)) (q : BookSeat S E F) → length qs ≡ n → AreNewSeats story fixed b x qs → IsNewSeat story fixed b x n q → AreNewSeats story fixed b x (qs ++ q ∷ [])
   one_seat_more n qs q len all new j p e = ⊎_elim (λ t. all j p t) (λ t. subst (λ (z : ℕ × BookSeat S E F). IsNewSeat story fixed b x z.0 z.1) (λ i. (sym (t.0 ∙ len) i, t.1 i)) new) (slice_get_snoc qs q p j e)
-
-module _ {A : Type 0} where
-  -- what is found after a write
-  slice_get_set : (xs : List A) (i j : ℕ) (y z : A) → slice_get (slice_set xs i y) j ≡ Some z → ((j ≡ i) × (y ≡ z)) ⊎ (slice_get xs j ≡ Some z)
-  slice_get_set [] i j y z e = inr e
-  slice_get_set (x ∷ xs) zero zero y z e = inl (refl, some_same y z e)
-  slice_get_set (x ∷ xs) zero (suc j) y z e = inr e
-  slice_get_set (x ∷ xs) (suc i) zero y z e = inr e
-  slice_get_set (x ∷ xs) (suc i) (suc j) y z e = ⊎_elim (λ t. inl (ap suc t.0, t.1)) (λ t. inr t) (slice_get_set xs i j y z e)
-
-module _ {S E F : Type 0} (ids : List TableId) (n : ℕ) (qs : List (BookSeat S E F)) (are : AreSeatsAt ids n qs) where
-  -- a seat took a turn
-  pub are_seats_after_turn : (k : ℕ) (p q : BookSeat S E F) → slice_get qs k ≡ Some p → IsSameSeat p q → IsOutside q → AreSeatsAt ids n (slice_set qs k q)
-  are_seats_after_turn k p q at same out j z e = ⊎_elim
-      (λ t. let old = are k p at in subst (λ (y : ℕ × BookSeat S E F). (slice_get ids y.0 ≡ Some (seat_book y.1)) × IsOutside y.1 × (number y.1 ≡ n)) (λ i. (sym t.0 i, t.1 i)) (old.0 ∙ ap Some (sym same.0), out, same.2 ∙ old.2))
-      (λ t. are j z t)
-      (slice_get_set qs k j q z e)
 
 -- one more of the things that have a book each, with the seat at its book
 pub are_seats_with_more : {X S E F : Type 0} (id_of : X → TableId) (n : ℕ) (xs : List X) (x : X) (qs : List (BookSeat S E F)) (q : BookSeat S E F) → AreSeatsAt (map id_of xs) n qs → length qs ≡ length xs
@@ -133,13 +110,13 @@ module _ {S E F : Type 0} (b : Book S E F) where
 
 module _ {S E F : Type 0} (story : S → List E) (maker : E → ℕ) (fixed : S → F) (k : Opening S) where
   -- what the members know, the seats know
-  pub whole_of_members : (made : ℕ) (xs : List E) (qs : List (BookSeat S E F)) → Mems story maker fixed k made xs (map member_of qs) → All (λ q. Continues maker (number q) (seen_by q) xs) qs
+  pub whole_of_members : (made : ℕ) (xs : List E) (qs : List (BookSeat S E F)) → AreMembers maker made xs (map member_of qs) → All (λ q. Continues maker (number q) (seen_by q) xs) qs
   whole_of_members made xs [] h = All-nil (λ q. Continues maker (number q) (seen_by q) xs)
-  whole_of_members made xs (q ∷ qs) h = All-cons (λ q. Continues maker (number q) (seen_by q) xs) q qs (h.0.0, h.0.1) (whole_of_members made xs qs h.1)
+  whole_of_members made xs (q ∷ qs) h = All-cons (λ q. Continues maker (number q) (seen_by q) xs) q qs (h.0.begins, h.0.all_own) (whole_of_members made xs qs h.1)
 
-  pub numbers_below : (made : ℕ) (xs : List E) (qs : List (BookSeat S E F)) → Mems story maker fixed k made xs (map member_of qs) → All (λ q. number q < made) qs
+  pub numbers_below : (made : ℕ) (xs : List E) (qs : List (BookSeat S E F)) → AreMembers maker made xs (map member_of qs) → All (λ q. number q < made) qs
   numbers_below made xs [] h = All-nil (λ q. number q < made)
-  numbers_below made xs (q ∷ qs) h = All-cons (λ q. number q < made) q qs h.0.2 (numbers_below made xs qs h.1)
+  numbers_below made xs (q ∷ qs) h = All-cons (λ q. number q < made) q qs h.0.numbered (numbers_below made xs qs h.1)
 
 not_among : {S E F : Type 0} (n : ℕ) (qs : List (BookSeat S E F)) → All (λ q. number q ≢ n) qs → HasNumber (map member_of qs) n → ⊥
 not_among n [] free p = absurd p
@@ -159,9 +136,9 @@ module _ {S E F : Type 0} (story : S → List E) (maker : E → ℕ) (fixed : S 
       let names = has.4 ∙ (sym (map-append member_of qs (q ∷ [])) ∙ ap (map member_of) (sym is)) in (
         x,
         some-injective slot (Some x) (sym at ∙ e.1),
-        whole_of_members story maker fixed k k.seats (story x) all (subst (λ (z : List (ℕ × List E)). Mems story maker fixed k k.seats (story x) z) names e.3),
+        whole_of_members story maker fixed k k.seats (story x) all (subst (λ (z : List (ℕ × List E)). AreMembers maker k.seats (story x) z) names e.3),
         (λ n free. e.4 n (λ p. not_among n all free (subst (λ (z : List (ℕ × List E)). HasNumber z n) names p))),
         e.2,
-        numbers_below story maker fixed k k.seats (story x) all (subst (λ (z : List (ℕ × List E)). Mems story maker fixed k k.seats (story x) z) names e.3),
+        numbers_below story maker fixed k k.seats (story x) all (subst (λ (z : List (ℕ × List E)). AreMembers maker k.seats (story x) z) names e.3),
         ⊎_elim (λ t. inl t) (λ t. inr (some_seat_saw all (story x) (subst (λ (z : List (ℕ × List E)). AnyHasSeen z (story x)) names t))) e.5,
       )

@@ -14,7 +14,7 @@ use Rattle.host_turn.specs.declared.view.Stage.{Stage}
 use Rattle.host_turn.specs.declared.view.Stage.TheVariants.{Maker, Outside, Waiting, Inside, Note, Closing, Spent}
 use Rattle.host_turn.specs.History.{entries_of}
 use Rattle.host_turn.specs.Views.{total, has_ticket, is_at_rest, HasNumber, AnyHasSeen, tickets_of, share_of, note_view, told_view, view_after_making, new_seat_view, gathered_view, spent_view, members_at, members_of}
-use Rattle.host_turn.specs.Rule.{Knows, Apart, AtHome, Away, OneHistory, first_view}
+use Rattle.host_turn.specs.Rule.{IsMember, AreMembers, Owns, Knows, Apart, AtHome, Away, OneHistory, first_view}
 use Rattle.host_turn.proofs.Totals.{total_set, total_snoc, total_two}
 use Rattle.host_turn.proofs.Histories.{prefix_refl, prefix_nil}
 use Rattle.host_turn.proofs.Stepping as m
@@ -83,7 +83,7 @@ module _ {S E F : Type 0} (story : S → List E) (maker : E → ℕ) (fixed : S 
   fixed_value = fixed k.state.value
 
   abbrev Kn : ℕ → ℕ → ℕ → List E → ℕ → V → Stage → Type 0
-  Kn next serving made last j u a = Knows story maker fixed next serving made k.seats first last fixed_value j u a
+  Kn next serving made last j u a = Knows maker next serving made k.seats first last fixed_value j u a
 
   abbrev Ap : ℕ → V → ℕ → V → Type 0
   Ap = Apart story maker fixed
@@ -101,10 +101,10 @@ module _ {S E F : Type 0} (story : S → List E) (maker : E → ℕ) (fixed : S 
         few = few;
         within = omega arith;
         others = λ n none. refl;
-        each = λ j u e. let t = only j u e in subst (λ (z : ℕ × V). Kn 0 0 0 first z.0 z.1 z.1.stage) (λ i. (sym t.0 i, t.1 i)) (refl, refl, (let p : k.seats + 0 ≡ k.seats = omega arith in p), refl, refl, prefix_refl first);
+        each = λ j u e. let t = only j u e in subst (λ (z : ℕ × V). Kn 0 0 0 first z.0 z.1 z.1.stage) (λ i. (sym t.0 i, t.1 i)) record { is_first = refl; next_number = refl; to_make = omega arith; seen_first = refl; has_fixed = refl; begins = prefix_refl first };
         apart = λ i j a b ea eb. let e : i ≡ j = (only i a ea).0 ∙ sym (only j b eb).0 in ((λ _ _ _. e), λ _ _ _. e);
         witnessed = inl refl;
-        slot = inl (x, refl, ap story (sym is), ap fixed (sym is), λ j u e. m.out story maker fixed k u.stage (ap (λ (z : V). m.is_inside story maker fixed k z.stage) (sym (only j u e).1)));
+        slot = inl record { state = x; in_slot = refl; history = ap story (sym is); has_fixed = ap fixed (sym is); nobody = λ j u e. m.out story maker fixed k u.stage (ap (λ (z : V). m.is_inside story maker fixed k z.stage) (sym (only j u e).1)) };
       }
 
   Slot : List ℕ → List (maybe.Option (Option S)) → List V → List E → Type 0
@@ -113,8 +113,14 @@ module _ {S E F : Type 0} (story : S → List E) (maker : E → ℕ) (fixed : S 
   slot_longer : (ws : List ℕ) (hs : List (maybe.Option (Option S))) (vs : List V) (u : V) (last : List E) → m.is_inside story maker fixed k u.stage ≡ 0 → Slot ws hs vs last → Slot ws hs (vs ++ u ∷ []) last
   unfolding Slot
   slot_longer ws hs vs u last out c = ⊎_elim
-      (λ t. inl (t.0, t.1, t.2, t.3, λ j w e. ⊎_elim (λ z. t.4 j w z) (λ z. m.out story maker fixed k w.stage (ap (λ (y : V). m.is_inside story maker fixed k y.stage) (sym z.1) ∙ out)) (at_snoc vs u w j e)))
-      (λ t. inr (t.0, t.1, longer_at vs (u ∷ []) t.0 t.1 t.2, t.3, t.4))
+      (λ home. inl record {
+        state = home.state;
+        in_slot = home.in_slot;
+        history = home.history;
+        has_fixed = home.has_fixed;
+        nobody = λ j w e. ⊎_elim (λ z. home.nobody j w z) (λ z. m.out story maker fixed k w.stage (ap (λ (y : V). m.is_inside story maker fixed k y.stage) (sym z.1) ∙ out)) (at_snoc vs u w j e);
+      })
+      (λ away. inr record { holder = away.holder; view = away.view; found = longer_at vs (u ∷ []) away.holder away.view away.found; has_turn = away.has_turn; slot_out = away.slot_out })
       c
 
   -- one view is cut in two
@@ -156,46 +162,50 @@ module _ {S E F : Type 0} (story : S → List E) (maker : E → ℕ) (fixed : S 
 
   pub notes : (id : ℕ) (v : V) → v.stage ≡ Outside → Splits K id v v (note_view v)
   notes id v is s r at = let own = m.knows story maker fixed k s r id v Outside at is in let out = ap (m.is_inside story maker fixed k) is in
-      cut s r id v v (note_view v) r.made at (omega arith) r.within (omega arith) refl refl out out refl (r.each id v at) (own.0.0, own.2, refl) (λ j u _ e. r.each j u e) (λ j u _ e. r.apart id j v u at e)
+      cut s r id v v (note_view v) r.made at (omega arith) r.within (omega arith) refl refl out out refl (r.each id v at) record { begins = own.member.begins; has_fixed = own.has_fixed; stands_for_none = refl } (λ j u _ e. r.each j u e) (λ j u _ e. r.apart id j v u at e)
       (λ j u e. ((λ n none _. absurd none), λ z _ _. absurd (omega arith))) (λ e. e) (λ n p. p)
 
+  -- members stay so when more seats were made
+  member_widen : (made more : ℕ) (last : List E) (x : ℕ × List E) → made ≤ more → IsMember maker made last x → IsMember maker more last x
+  member_widen made more last x le h = let lt = h.numbered in record { begins = h.begins; all_own = h.all_own; numbered = omega arith }
+
+  members_widen : (made more : ℕ) (last : List E) (ms : List (ℕ × List E)) → made ≤ more → AreMembers maker made last ms → AreMembers maker more last ms
+  members_widen made more last [] le h = tt
+  members_widen made more last (x ∷ xs) le h = (member_widen made more last x le h.0, members_widen made more last xs le h.1)
+
+  owns_more : (made : ℕ) (last : List E) (u : V) → Owns maker made last fixed_value u → Owns maker (made + 1) last fixed_value u
+  owns_more made last u h = record { member = member_widen made (made + 1) last (u.number, u.seen) (omega arith) h.member; told_begins = h.told_begins; has_fixed = h.has_fixed; stands_for_one = h.stands_for_one; told_has_fixed = h.told_has_fixed }
+
   one_more : (next serving made : ℕ) (last : List E) (j : ℕ) (u : V) (a : Stage) → j ≢ 0 → Kn next serving made last j u a → Kn next serving (made + 1) last j u a
-  one_more next serving made last j u Maker ne h = absurd (ne h.0)
-  one_more next serving made last j u Outside ne h = (one h.0, h.1, h.2, h.3, h.4)
-    where
-      one : m.Mem story maker fixed k made last (u.number, u.seen) → m.Mem story maker fixed k (made + 1) last (u.number, u.seen)
-      one g = let lt = g.2 in (g.0, g.1, omega arith)
-  one_more next serving made last j u Waiting ne h = let lt = h.0.0.2 in (((h.0.0.0, h.0.0.1, omega arith), h.0.1, h.0.2, h.0.3, h.0.4), h.1, h.2)
-  one_more next serving made last j u Inside ne h = let lt = h.0.0.2 in (((h.0.0.0, h.0.0.1, omega arith), h.0.1, h.0.2, h.0.3, h.0.4), h.1, h.2, h.3)
+  one_more next serving made last j u Maker ne h = absurd (ne h.is_first)
+  one_more next serving made last j u Outside ne h = owns_more made last u h
+  one_more next serving made last j u Waiting ne h = record { owns = owns_more made last u h.owns; not_past = h.not_past; drawn = h.drawn }
+  one_more next serving made last j u Inside ne h = record { owns = owns_more made last u h.owns; served = h.served; drawn = h.drawn; seen_all = h.seen_all }
   one_more next serving made last j u Note ne h = h
-  one_more next serving made last j u Closing ne h = (h.0, all u.members h.1, h.2)
-    where
-      all : (ms : List (ℕ × List E)) → m.Mems story maker fixed k made last ms → m.Mems story maker fixed k (made + 1) last ms
-      all [] g = tt
-      all (x ∷ xs) g = let lt = g.0.2 in ((g.0.0, g.0.1, omega arith), all xs g.1)
+  one_more next serving made last j u Closing ne h = record { has_fixed = h.has_fixed; members = members_widen made (made + 1) last u.members (omega arith) h.members; counted = h.counted }
   one_more next serving made last j u Spent ne h = h
 
-  all_below : (made : ℕ) (last : List E) (ms : List (ℕ × List E)) (n : ℕ) → m.Mems story maker fixed k made last ms → HasNumber ms n → n < made
+  all_below : (made : ℕ) (last : List E) (ms : List (ℕ × List E)) (n : ℕ) → AreMembers maker made last ms → HasNumber ms n → n < made
   all_below made last [] n h p = absurd p
-  all_below made last (x ∷ xs) n h p = ⊎_elim (λ e. let lt = h.0.2 in omega arith) (λ q. all_below made last xs n h.1 q) p
+  all_below made last (x ∷ xs) n h p = ⊎_elim (λ e. let lt = h.0.numbered in omega arith) (λ q. all_below made last xs n h.1 q) p
 
   has_below : (next serving made : ℕ) (last : List E) (j : ℕ) (u : V) (a : Stage) (n : ℕ) → Kn next serving made last j u a → HasNumber (members_at a u) n → n < made
   has_below next serving made last j u Maker n h p = absurd p
-  has_below next serving made last j u Outside n h p = all_below made last ((u.number, u.seen) ∷ []) n (h.0, tt) p
-  has_below next serving made last j u Waiting n h p = all_below made last ((u.number, u.seen) ∷ []) n (h.0.0, tt) p
-  has_below next serving made last j u Inside n h p = all_below made last ((u.number, u.seen) ∷ []) n (h.0.0, tt) p
+  has_below next serving made last j u Outside n h p = all_below made last ((u.number, u.seen) ∷ []) n (h.member, tt) p
+  has_below next serving made last j u Waiting n h p = all_below made last ((u.number, u.seen) ∷ []) n (h.owns.member, tt) p
+  has_below next serving made last j u Inside n h p = all_below made last ((u.number, u.seen) ∷ []) n (h.owns.member, tt) p
   has_below next serving made last j u Note n h p = absurd p
-  has_below next serving made last j u Closing n h p = all_below made last u.members n h.1 p
+  has_below next serving made last j u Closing n h p = all_below made last u.members n h.members p
   has_below next serving made last j u Spent n h p = absurd p
 
   pub makes : (id : ℕ) (v : V) → v.stage ≡ Maker → 0 < v.share → Splits K id v (view_after_making v) (new_seat_view v)
   makes id v is pos s r at = let kn = m.knows story maker fixed k s r id v Maker at is in let out = ap (m.is_inside story maker fixed k) is in let left : V = view_after_making v in let right : V = new_seat_view v in
-      let all = kn.2 in let num = kn.1 in let none : (n : ℕ) → HasNumber (members_at v.stage left) n → ⊥ = λ n p. subst (λ (z : Stage). HasNumber (members_at z left) n) is p in
+      let all = kn.to_make in let num = kn.next_number in let none : (n : ℕ) → HasNumber (members_at v.stage left) n → ⊥ = λ n p. subst (λ (z : Stage). HasNumber (members_at z left) n) is p in
       let free : has_ticket v.stage ≡ 0 = ap has_ticket is in
       cut s r id v left right (r.made + 1) at (omega arith) (omega arith) (omega arith) refl refl out out refl
-      (subst (λ (z : Stage). Kn r.next r.serving (r.made + 1) r.last id left z) (sym is) (kn.0, omega arith, omega arith, kn.3, kn.4, kn.5))
-      ((kn.5, (ap (λ n. entries_of maker n r.last) num ∙ (r.others r.made (λ j u e p. let lt = has_below r.next r.serving r.made r.last j u u.stage r.made (r.each j u e) p in absurd (omega arith)) ∙ ap₂ (λ n l. entries_of maker n l) (sym num) (sym kn.3))), omega arith), prefix_nil r.last, kn.4, refl, kn.4)
-      (λ j u ne e. one_more r.next r.serving r.made r.last j u u.stage (λ z. ne (z ∙ sym kn.0)) (r.each j u e))
+      (subst (λ (z : Stage). Kn r.next r.serving (r.made + 1) r.last id left z) (sym is) record { is_first = kn.is_first; next_number = omega arith; to_make = omega arith; seen_first = kn.seen_first; has_fixed = kn.has_fixed; begins = kn.begins })
+      record { member = record { begins = kn.begins; all_own = (ap (λ n. entries_of maker n r.last) num ∙ (r.others r.made (λ j u e p. let lt = has_below r.next r.serving r.made r.last j u u.stage r.made (r.each j u e) p in absurd (omega arith)) ∙ ap₂ (λ n l. entries_of maker n l) (sym num) (sym kn.seen_first))); numbered = omega arith }; told_begins = prefix_nil r.last; has_fixed = kn.has_fixed; stands_for_one = refl; told_has_fixed = kn.has_fixed }
+      (λ j u ne e. one_more r.next r.serving r.made r.last j u u.stage (λ z. ne (z ∙ sym kn.is_first)) (r.each j u e))
       (λ j u ne e. ((λ n p _. absurd (none n p)), λ z _ _. absurd (omega arith)))
       (λ j u e. (
         (λ n p q. ⊎_elim (λ same. ⊎_elim
@@ -214,29 +224,29 @@ module _ {S E F : Type 0} (story : S → List E) (maker : E → ℕ) (fixed : S 
       let out = ap (m.is_inside story maker fixed k) is in let free : has_ticket w.stage ≡ 0 = ap has_ticket is' in
       let r' = m.moved story maker fixed k s r id v (told_view v w) s.words s.homes r.next r.serving r.last at r.words refl refl
       (λ n p. subst (λ (z : Stage). HasNumber (members_at z (told_view v w)) n) (sym is) (subst (λ (z : Stage). HasNumber (members_at z v) n) is p)) (λ _ _. refl)
-      (subst (λ (z : Stage). Kn r.next r.serving r.made r.last id (told_view v w) z) (sym is) (own.0, note.0, own.2, own.3, note.1))
+      (subst (λ (z : Stage). Kn r.next r.serving r.made r.last id (told_view v w) z) (sym is) record { member = own.member; told_begins = note.begins; has_fixed = own.has_fixed; stands_for_one = own.stands_for_one; told_has_fixed = note.has_fixed })
       (λ j u _ e. r.each j u e)
       (λ j u _ e. ((λ n p q. m.names_apart story maker fixed k s r id v Outside at is j u e n (subst (λ (z : Stage). HasNumber (members_at z (told_view v w)) n) is p) q), (r.apart id j v u at e).1))
       (m.slot_stays story maker fixed k s id v (told_view v w) s.words r.last at out out r.slot)
       (m.witness_stays story maker fixed k s.views id v (told_view v w) r.last at (λ e. subst (λ (z : Stage). AnyHasSeen (members_at z (told_view v w)) r.last) (sym is) (subst (λ (z : Stage). AnyHasSeen (members_at z v) r.last) is e)) r.witnessed) in
       let s' : St = record { words = s.words; homes = s.homes; views = set s.views id (told_view v w) } in
-      m.moved story maker fixed k s' r' other w spent_view s.words s.homes r'.next r'.serving r'.last at' r'.words (omega arith) (sym note.2)
+      m.moved story maker fixed k s' r' other w spent_view s.words s.homes r'.next r'.serving r'.last at' r'.words (omega arith) (sym note.stands_for_none)
       (λ n p. absurd (subst (λ (z : Stage). HasNumber (members_at z w) n) is' p)) (λ _ _. refl) refl (λ j u _ e. r'.each j u e)
       (λ j u _ e. ((λ n p _. absurd p), λ z _ _. absurd (omega arith)))
       (m.slot_stays story maker fixed k s' other w spent_view s.words r'.last at' (ap (m.is_inside story maker fixed k) is') refl r'.slot)
       (m.witness_stays story maker fixed k s'.views other w spent_view r'.last at' (λ e. absurd (subst (λ (z : Stage). AnyHasSeen (members_at z w) r'.last) is' e)) r'.witnessed)
 
-  mems_append : (made : ℕ) (last : List E) (xs ys : List (ℕ × List E)) → m.Mems story maker fixed k made last xs → m.Mems story maker fixed k made last ys → m.Mems story maker fixed k made last (xs ++ ys)
-  mems_append made last [] ys g h = h
-  mems_append made last (x ∷ xs) ys g h = (g.0, mems_append made last xs ys g.1 h)
+  members_append : (made : ℕ) (last : List E) (xs ys : List (ℕ × List E)) → AreMembers maker made last xs → AreMembers maker made last ys → AreMembers maker made last (xs ++ ys)
+  members_append made last [] ys g h = h
+  members_append made last (x ∷ xs) ys g h = (g.0, members_append made last xs ys g.1 h)
 
-  still_members : (next serving made : ℕ) (last : List E) (j : ℕ) (u : V) (a : Stage) → is_at_rest a ≡ 1 → Kn next serving made last j u a → (u.fixed ≡ Some fixed_value) × m.Mems story maker fixed k made last (members_at a u) × (u.share ≡ length (members_at a u))
+  still_members : (next serving made : ℕ) (last : List E) (j : ℕ) (u : V) (a : Stage) → is_at_rest a ≡ 1 → Kn next serving made last j u a → (u.fixed ≡ Some fixed_value) × AreMembers maker made last (members_at a u) × (u.share ≡ length (members_at a u))
   still_members next serving made last j u Maker z h = absurd (omega arith)
-  still_members next serving made last j u Outside z h = (h.2, (h.0, tt), h.3)
+  still_members next serving made last j u Outside z h = (h.has_fixed, (h.member, tt), h.stands_for_one)
   still_members next serving made last j u Waiting z h = absurd (omega arith)
   still_members next serving made last j u Inside z h = absurd (omega arith)
   still_members next serving made last j u Note z h = absurd (omega arith)
-  still_members next serving made last j u Closing z h = (h.0, h.1, h.2)
+  still_members next serving made last j u Closing z h = (h.has_fixed, h.members, h.counted)
   still_members next serving made last j u Spent z h = absurd (omega arith)
 
   still_free : (a : Stage) → is_at_rest a ≡ 1 → (has_ticket a ≡ 0) × (m.is_inside story maker fixed k a ≡ 0)
@@ -283,7 +293,7 @@ module _ {S E F : Type 0} (story : S → List E) (maker : E → ℕ) (fixed : S 
             (λ no. dite (ℕ_discrete j other)
             (λ same. none id b at_b (has_number_left (members_of w) (members_of v) n (subst (λ (z : V). HasNumber (members_of z) n) (m.same_view story maker fixed k vs j other u w e at0 same) p)))
             (λ not. none j u (set_else (set vs id b) other j c not ∙ (set_else vs id j b no ∙ e)) p)));
-        each = after_join vs id other b c (λ j u. Kn r.next r.serving r.made r.last j u u.stage) (kv.0, mems_append r.made r.last (members_of w) (members_of v) kw.1 kv.1, (let pv = kv.2 in let pw = kw.2 in let la = length-append (members_of w) (members_of v) in omega arith)) refl (λ j u _ _ e. r.each j u e);
+        each = after_join vs id other b c (λ j u. Kn r.next r.serving r.made r.last j u u.stage) record { has_fixed = kv.0; members = members_append r.made r.last (members_of w) (members_of v) kw.1 kv.1; counted = (let pv = kv.2 in let pw = kw.2 in let la = length-append (members_of w) (members_of v) in omega arith) } refl (λ j u _ _ e. r.each j u e);
         apart = λ i j x y ex ey. after_join vs id other b c (λ i x. Ap i x j y)
             (after_join vs id other b c (λ j y. Ap id b j y) ((λ _ _ _. refl), λ _ _ _. refl) (m.apart_sym story maker fixed k other c id b (with_c other id b)) with_b j y ey)
             (with_c other j y)
@@ -299,11 +309,11 @@ module _ {S E F : Type 0} (story : S → List E) (maker : E → ℕ) (fixed : S 
 
   named_parts : (next serving made : ℕ) (last : List E) (j : ℕ) (u : V) (a : Stage) → Kn next serving made last j u a → 0 < length (members_at a u) → 0 < u.share
   named_parts next serving made last j u Maker h p = absurd (omega arith)
-  named_parts next serving made last j u Outside h p = let one = h.3 in omega arith
-  named_parts next serving made last j u Waiting h p = let one = h.0.3 in omega arith
-  named_parts next serving made last j u Inside h p = let one = h.0.3 in omega arith
+  named_parts next serving made last j u Outside h p = let one = h.stands_for_one in omega arith
+  named_parts next serving made last j u Waiting h p = let one = h.owns.stands_for_one in omega arith
+  named_parts next serving made last j u Inside h p = let one = h.owns.stands_for_one in omega arith
   named_parts next serving made last j u Note h p = absurd (omega arith)
-  named_parts next serving made last j u Closing h p = let one = h.2 in omega arith
+  named_parts next serving made last j u Closing h p = let one = h.counted in omega arith
   named_parts next serving made last j u Spent h p = absurd (omega arith)
 
   -- beside a view that stands for all seats no other has a number
@@ -313,25 +323,21 @@ module _ {S E F : Type 0} (story : S → List E) (maker : E → ℕ) (fixed : S 
 
   -- who has taken in all seats knows where the state is
   pub ends : (id : ℕ) (v : V) (ws : List ℕ) (xs : List (Option S)) → is_at_rest v.stage ≡ 1 → v.share ≡ k.seats → Final (Seen K id v) ws xs
-      → (x : S) × (get_elem? xs 0 ≡ some (Some x)) × (fixed x ≡ fixed_value) × m.Mems story maker fixed k k.seats (story x) (members_of v) × ((n : ℕ) → ¬ HasNumber (members_of v) n → entries_of maker n (story x) ≡ entries_of maker n first) × ((story x ≡ first) ⊎ AnyHasSeen (members_of v) (story x))
+      → (x : S) × (get_elem? xs 0 ≡ some (Some x)) × (fixed x ≡ fixed_value) × AreMembers maker k.seats (story x) (members_of v) × ((n : ℕ) → ¬ HasNumber (members_of v) n → entries_of maker n (story x) ≡ entries_of maker n first) × ((story x ≡ first) ⊎ AnyHasSeen (members_of v) (story x))
   ends id v ws xs is all f = let s : St = f.0 in let r = f.1.0 in let at = f.1.1 in let kv = still_members r.next r.serving r.made r.last id v v.stage is (r.each id v at) in ⊎_elim
-      (λ home. let x : S = home.0 in (
+      (λ home. let x : S = home.state in (
         x,
-        f.4 0 (Some x) (ap (λ l. get_elem? l 0) home.1),
-        home.3,
-        subst (λ (l : List E). m.Mems story maker fixed k k.seats l (members_of v)) (sym home.2) (widen r.made r.last (members_of v) r.within kv.1),
-        (λ n none. ap (entries_of maker n) home.2 ∙ r.others n (λ j u e p. dite (ℕ_discrete j id)
+        f.4 0 (Some x) (ap (λ l. get_elem? l 0) home.in_slot),
+        home.has_fixed,
+        subst (λ (l : List E). AreMembers maker k.seats l (members_of v)) (sym home.history) (members_widen r.made k.seats r.last (members_of v) r.within kv.1),
+        (λ n none. ap (entries_of maker n) home.history ∙ r.others n (λ j u e p. dite (ℕ_discrete j id)
             (λ same. none (subst (λ (z : V). HasNumber (members_of z) n) (m.same_view story maker fixed k s.views j id u v e at same) p))
             (λ no. nobody_else s r id v j u at all no e (has_number_some (members_of u) n p)))),
-        ⊎_elim (λ t. inl (home.2 ∙ t)) (λ t. inr (subst (λ (l : List E). AnyHasSeen (members_of v) l) (sym home.2) (dite (ℕ_discrete t.0 id)
+        ⊎_elim (λ t. inl (home.history ∙ t)) (λ t. inr (subst (λ (l : List E). AnyHasSeen (members_of v) l) (sym home.history) (dite (ℕ_discrete t.0 id)
             (λ e. subst (λ (z : V). AnyHasSeen (members_of z) r.last) (m.same_view story maker fixed k s.views t.0 id t.1 v t.2 at e) t.3)
             (λ no. absurd (nobody_else s r id v t.0 t.1 at all no t.2 (any_seen_some (members_of t.1) r.last t.3)))))) r.witnessed,
       ))
-      (λ away. let h : ℕ = away.0 in let u : V = away.1 in let ku = m.knows story maker fixed k s r h u Inside away.2 away.3 in
-      let apart : id ≢ h = λ e. m.out story maker fixed k v.stage (still_free v.stage is).1 (ap (λ (z : V). z.stage) (sym (m.same_view story maker fixed k s.views h id u v away.2 at (sym e))) ∙ away.3) in
-      let two = total_two share_of s.views id h v u apart at away.2 in let one = ku.0.3 in let sum = r.shares in absurd (omega arith))
+      (λ away. let h : ℕ = away.holder in let u : V = away.view in let ku = m.knows story maker fixed k s r h u Inside away.found away.has_turn in
+      let apart : id ≢ h = λ e. m.out story maker fixed k v.stage (still_free v.stage is).1 (ap (λ (z : V). z.stage) (sym (m.same_view story maker fixed k s.views h id u v away.found at (sym e))) ∙ away.has_turn) in
+      let two = total_two share_of s.views id h v u apart at away.found in let one = ku.owns.stands_for_one in let sum = r.shares in absurd (omega arith))
       r.slot
-    where
-      widen : (made : ℕ) (last : List E) (ms : List (ℕ × List E)) → made ≤ k.seats → m.Mems story maker fixed k made last ms → m.Mems story maker fixed k k.seats last ms
-      widen made last [] le h = tt
-      widen made last (x ∷ xs) le h = let lt = h.0.2 in ((h.0.0, h.0.1, omega arith), widen made last xs le h.1)

@@ -17,7 +17,7 @@ use Rattle.host_turn.specs.declared.view.Stage.{Stage}
 use Rattle.host_turn.specs.declared.view.Stage.TheVariants.{Maker, Outside, Waiting, Inside, Note, Closing, Spent}
 use Rattle.host_turn.specs.History.{entries_of, Adds, longer}
 use Rattle.host_turn.specs.Views.{total, has_ticket, HasNumber, AnyHasSeen, tickets_of, share_of, waiting_view, inside_view, outside_view, merged_view, members_at, members_of}
-use Rattle.host_turn.specs.Rule.{IsOpeningOrSeen, IsFree, IsMember, AreMembers, Knows, Apart, AtHome, Away, OneHistory}
+use Rattle.host_turn.specs.Rule.{IsOpeningOrSeen, IsFree, IsMember, AreMembers, Owns, Knows, Apart, AtHome, Away, OneHistory}
 use Rattle.host_turn.specs.Steps.{DrawsTicket, TakesTurn, PassesTurn, MergesTold, held_history}
 use Rattle.host_turn.proofs.Totals.{total_set, total_le}
 use Rattle.host_turn.proofs.Histories.{prefix_refl, prefix_nil, prefix_trans, adds_none, entries_between, longer_left, longer_right, longer_begins, prefix_same}
@@ -44,7 +44,7 @@ module _ {S E F : Type 0} (story : S → List E) (maker : E → ℕ) (fixed : S 
   fixed_value = fixed k.state.value
 
   abbrev pub Kn : ℕ → ℕ → ℕ → List E → ℕ → V → Type 0
-  Kn next serving made last j u = Knows story maker fixed next serving made k.seats first last fixed_value j u u.stage
+  Kn next serving made last j u = Knows maker next serving made k.seats first last fixed_value j u u.stage
 
   abbrev pub Ap : ℕ → V → ℕ → V → Type 0
   Ap = Apart story maker fixed
@@ -106,8 +106,15 @@ module _ {S E F : Type 0} (story : S → List E) (maker : E → ℕ) (fixed : S 
       → AtHome story maker fixed k s last ⊎ Away story maker fixed k s last
       → AtHome story maker fixed k record { words = words'; homes = s.homes; views = set s.views id w } last ⊎ Away story maker fixed k record { words = words'; homes = s.homes; views = set s.views id w } last
   slot_stays s id v w words' last at a b c = ⊎_elim
-      (λ t. inl (t.0, t.1, t.2, t.3, λ j u e. ⊎_elim (λ z. out u.stage (ap (λ (y : V). is_inside y.stage) (sym z.1) ∙ b)) (λ z. t.4 j u z.1) (at_set s.views id j w u e)))
-      (λ t. let ne : t.0 ≢ id = λ e. out v.stage a (ap (λ (y : V). y.stage) (sym (same_view s.views t.0 id t.1 v t.2 at e)) ∙ t.3) in inr (t.0, t.1, set_else s.views id t.0 w ne ∙ t.2, t.3, t.4))
+      (λ home. inl record {
+        state = home.state;
+        in_slot = home.in_slot;
+        history = home.history;
+        has_fixed = home.has_fixed;
+        nobody = λ j u e. ⊎_elim (λ z. out u.stage (ap (λ (y : V). is_inside y.stage) (sym z.1) ∙ b)) (λ z. home.nobody j u z.1) (at_set s.views id j w u e);
+      })
+      (λ away. let ne : away.holder ≢ id = λ e. out v.stage a (ap (λ (y : V). y.stage) (sym (same_view s.views away.holder id away.view v away.found at e)) ∙ away.has_turn) in
+      inr record { holder = away.holder; view = away.view; found = set_else s.views id away.holder w ne ∙ away.found; has_turn = away.has_turn; slot_out = away.slot_out })
       c
 
   -- somebody has still seen the whole story
@@ -118,27 +125,27 @@ module _ {S E F : Type 0} (story : S → List E) (maker : E → ℕ) (fixed : S 
       (λ ne. inr (t.0, t.1, set_else views id t.0 w ne ∙ t.2, t.3)))
       c
 
-  later_ticket : (next next' serving made : ℕ) (last : List E) (j : ℕ) (u : V) (a : Stage) → next ≤ next' → Knows story maker fixed next serving made k.seats first last fixed_value j u a
-      → Knows story maker fixed next' serving made k.seats first last fixed_value j u a
+  later_ticket : (next next' serving made : ℕ) (last : List E) (j : ℕ) (u : V) (a : Stage) → next ≤ next' → Knows maker next serving made k.seats first last fixed_value j u a
+      → Knows maker next' serving made k.seats first last fixed_value j u a
   later_ticket next next' serving made last j u Maker le h = h
   later_ticket next next' serving made last j u Outside le h = h
-  later_ticket next next' serving made last j u Waiting le h = let l = h.2 in (h.0, h.1, omega arith)
-  later_ticket next next' serving made last j u Inside le h = let l = h.2 in (h.0, h.1, omega arith, h.3)
+  later_ticket next next' serving made last j u Waiting le h = let drawn = h.drawn in record { owns = h.owns; not_past = h.not_past; drawn = omega arith }
+  later_ticket next next' serving made last j u Inside le h = let drawn = h.drawn in record { owns = h.owns; served = h.served; drawn = omega arith; seen_all = h.seen_all }
   later_ticket next next' serving made last j u Note le h = h
   later_ticket next next' serving made last j u Closing le h = h
   later_ticket next next' serving made last j u Spent le h = h
 
-  below_next : (next serving made : ℕ) (last : List E) (j : ℕ) (u : V) (a : Stage) → has_ticket a ≡ 1 → Knows story maker fixed next serving made k.seats first last fixed_value j u a → u.ticket < next
+  below_next : (next serving made : ℕ) (last : List E) (j : ℕ) (u : V) (a : Stage) → has_ticket a ≡ 1 → Knows maker next serving made k.seats first last fixed_value j u a → u.ticket < next
   below_next next serving made last j u Maker q h = absurd (omega arith)
   below_next next serving made last j u Outside q h = absurd (omega arith)
-  below_next next serving made last j u Waiting q h = h.2
-  below_next next serving made last j u Inside q h = h.2
+  below_next next serving made last j u Waiting q h = h.drawn
+  below_next next serving made last j u Inside q h = h.drawn
   below_next next serving made last j u Note q h = absurd (omega arith)
   below_next next serving made last j u Closing q h = absurd (omega arith)
   below_next next serving made last j u Spent q h = absurd (omega arith)
 
-  pub knows : (s : St) (r : K s) (id : ℕ) (v : V) (a : Stage) → get_elem? s.views id ≡ some v → v.stage ≡ a → Knows story maker fixed r.next r.serving r.made k.seats first r.last fixed_value id v a
-  knows s r id v a at is = subst (λ (z : Stage). Knows story maker fixed r.next r.serving r.made k.seats first r.last fixed_value id v z) is (r.each id v at)
+  pub knows : (s : St) (r : K s) (id : ℕ) (v : V) (a : Stage) → get_elem? s.views id ≡ some v → v.stage ≡ a → Knows maker r.next r.serving r.made k.seats first r.last fixed_value id v a
+  knows s r id v a at is = subst (λ (z : Stage). Knows maker r.next r.serving r.made k.seats first r.last fixed_value id v z) is (r.each id v at)
 
   -- the numbers of a seat stay apart from the others'
   pub names_apart : (s : St) (r : K s) (id : ℕ) (v : V) (a : Stage) → get_elem? s.views id ≡ some v → v.stage ≡ a → (j : ℕ) (u : V) → get_elem? s.views j ≡ some u
@@ -153,18 +160,22 @@ module _ {S E F : Type 0} (story : S → List E) (maker : E → ℕ) (fixed : S 
         tt,
         moved s r id v w (set s.words 0 ((get_or s.words 0 0 + 1) % 2 ^ 64)) s.homes (t + 1) r.serving r.last at
             ((λ i. set (r.words i) 0 ((get_or (r.words i) 0 0 + 1) % 2 ^ 64)) ∙ ap (λ z. z ∷ r.serving % 2 ^ 64 ∷ []) (mod-add-mod t (2 ^ 64) 1))
-            (omega arith) refl (λ m p. subst (λ (z : Stage). HasNumber (members_at z v) m) is p) (λ _ _. refl) (own, omega arith, omega arith) (λ j u _ e. later_ticket t (t + 1) r.serving r.made r.last j u u.stage (omega arith) (r.each j u e))
+            (omega arith) refl (λ m p. subst (λ (z : Stage). HasNumber (members_at z v) m) is p) (λ _ _. refl) record {
+              owns = record { member = own.member; told_begins = own.told_begins; has_fixed = own.has_fixed; stands_for_one = own.stands_for_one; told_has_fixed = own.told_has_fixed };
+              not_past = omega arith;
+              drawn = omega arith;
+            } (λ j u _ e. later_ticket t (t + 1) r.serving r.made r.last j u u.stage (omega arith) (r.each j u e))
             (λ j u ne e. (names_apart s r id v Outside at is j u e, λ _ two same. let l = below_next t r.serving r.made r.last j u u.stage two (r.each j u e) in absurd (omega arith)))
             (slot_stays s id v w (set s.words 0 ((get_or s.words 0 0 + 1) % 2 ^ 64)) r.last at (ap is_inside is) refl r.slot)
             (witness_stays s.views id v w r.last at (λ e. subst (λ (z : Stage). AnyHasSeen (members_at z v) r.last) is e) r.witnessed),
         (t, refl, ap (λ l. get_or l 0 0) r.words),
       )
 
-  ticket_le_share : (next serving made : ℕ) (last : List E) (j : ℕ) (u : V) (a : Stage) → Knows story maker fixed next serving made k.seats first last fixed_value j u a → has_ticket a ≤ u.share
+  ticket_le_share : (next serving made : ℕ) (last : List E) (j : ℕ) (u : V) (a : Stage) → Knows maker next serving made k.seats first last fixed_value j u a → has_ticket a ≤ u.share
   ticket_le_share next serving made last j u Maker h = omega arith
   ticket_le_share next serving made last j u Outside h = omega arith
-  ticket_le_share next serving made last j u Waiting h = let one = h.0.3 in omega arith
-  ticket_le_share next serving made last j u Inside h = let one = h.0.3 in omega arith
+  ticket_le_share next serving made last j u Waiting h = let one = h.owns.stands_for_one in omega arith
+  ticket_le_share next serving made last j u Inside h = let one = h.owns.stands_for_one in omega arith
   ticket_le_share next serving made last j u Note h = omega arith
   ticket_le_share next serving made last j u Closing h = omega arith
   ticket_le_share next serving made last j u Spent h = omega arith
@@ -183,61 +194,63 @@ module _ {S E F : Type 0} (story : S → List E) (maker : E → ℕ) (fixed : S 
       subst K (λ i. record { words = p i; homes = s.homes; views = sym (set_again s.views id v at) i }) r
 
   pub take_allowed : (n id : ℕ) (me : M) → me.0.stage ≡ Waiting → Allows K n id me 1 (λ x. x) (TakesTurn story maker fixed (step n 1 0 0 none) me)
-  take_allowed n id me is s r wide at small = let v : V = me.0 in let t : ℕ = v.ticket in let y : ℕ = get_or s.words 1 0 in let kn = knows s r id v Waiting at is in let own = kn.0 in
+  take_allowed n id me is s r wide at small = let v : V = me.0 in let t : ℕ = v.ticket in let y : ℕ = get_or s.words 1 0 in let kn = knows s r id v Waiting at is in let own = kn.owns in
       let found : y ≡ r.serving % 2 ^ 64 = ap (λ l. get_or l 1 0) r.words in dite (ℕ_discrete y (t % 2 ^ 64))
-      (λ hit. let few = short_queue s r in let above = kn.1 in let below = kn.2 in
+      (λ hit. let few = short_queue s r in let above = kn.not_past in let below = kn.drawn in
       let same : r.serving ≡ t = one_turn r.serving t (2 ^ 64) above (omega arith) (sym found ∙ hit) in ⊎_elim
-      (λ home. let x : S = home.0 in let w : V = inside_view v (story x) in let told : story x ≡ r.last = home.2 in (
+      (λ home. let x : S = home.state in let w : V = inside_view v (story x) in let told : story x ≡ r.last = home.history in (
         w,
         takes 0 (Some x),
-        ap (λ l. get_elem? l 0) home.1,
+        ap (λ l. get_elem? l 0) home.in_slot,
         moved s r id v w (set s.words 1 y) (set s.homes 0 none) r.next r.serving r.last at (same_word s r) (let q : has_ticket v.stage ≡ 1 = ap has_ticket is in omega arith) refl (λ m p. subst (λ (z : Stage). HasNumber (members_at z v) m) is p) (λ _ _. refl)
-            (((([], append-nil (story x) ∙ told), ap (entries_of maker v.number) (sym told), own.0.2), own.1, own.2, own.3, own.4), sym same, below, told)
+            record {
+              owns = record { member = record { begins = ([], append-nil (story x) ∙ told); all_own = ap (entries_of maker v.number) (sym told); numbered = own.member.numbered }; told_begins = own.told_begins; has_fixed = own.has_fixed; stands_for_one = own.stands_for_one; told_has_fixed = own.told_has_fixed };
+              served = sym same;
+              drawn = below;
+              seen_all = told;
+            }
             (λ j u _ e. r.each j u e) (λ j u _ e. (names_apart s r id v Waiting at is j u e, λ _ two eq. (r.apart id j v u at e).1 (ap has_ticket is) two eq))
-            (inr (id, w, here s.views id v w at, refl, ap (λ l. set l 0 none) home.1)) (inr (id, w, here s.views id v w at, inl told)),
+            (inr record { holder = id; view = w; found = here s.views id v w at; has_turn = refl; slot_out = ap (λ l. set l 0 none) home.in_slot }) (inr (id, w, here s.views id v w at, inl told)),
         (
-          (λ _. (x, refl, ((subst (λ l. IsPrefix v.seen l) (sym told) own.0.0, ap (entries_of maker v.number) told ∙ own.0.1), own.2 ∙ ap Some (sym home.3)))),
+          (λ _. (x, refl, ((subst (λ l. IsPrefix v.seen l) (sym told) own.member.begins, ap (entries_of maker v.number) told ∙ own.member.all_own), own.has_fixed ∙ ap Some (sym home.has_fixed)))),
           λ ne. absurd (ne hit),
         ),
       ))
-      (λ away. let h : ℕ = away.0 in let u : V = away.1 in let held = knows s r h u Inside away.2 away.3 in
-      let e : h ≡ id = (r.apart h id u v away.2 at).1 (ap has_ticket away.3) (ap has_ticket is) (held.1 ∙ same) in
-      absurd (out v.stage (ap is_inside is) (ap (λ (z : V). z.stage) (sym (same_view s.views h id u v away.2 at e)) ∙ away.3)))
+      (λ away. let h : ℕ = away.holder in let u : V = away.view in let held = knows s r h u Inside away.found away.has_turn in
+      let e : h ≡ id = (r.apart h id u v away.found at).1 (ap has_ticket away.has_turn) (ap has_ticket is) (held.served ∙ same) in
+      absurd (out v.stage (ap is_inside is) (ap (λ (z : V). z.stage) (sym (same_view s.views h id u v away.found at e)) ∙ away.has_turn)))
       r.slot)
       (λ miss. (v, keeps, tt, unmoved s r id v at, ((λ hit. absurd (miss hit)), λ _. refl)))
 
-  abbrev pub Mem : ℕ → List E → ℕ × List E → Type 0
-  Mem made last m = IsMember story maker fixed 0 0 made k.seats first last fixed_value m
+  member_on : (made : ℕ) (last last' : List E) (m : ℕ × List E) → IsPrefix last last' → entries_of maker m.0 last' ≡ entries_of maker m.0 last → IsMember maker made last m → IsMember maker made last' m
+  member_on made last last' m ext same h = record { begins = prefix_trans m.1 last last' h.begins ext; all_own = same ∙ h.all_own; numbered = h.numbered }
 
-  abbrev pub Mems : ℕ → List E → List (ℕ × List E) → Type 0
-  Mems made last ms = AreMembers story maker fixed 0 0 made k.seats first last fixed_value ms
-
-  member_on : (made : ℕ) (last last' : List E) (m : ℕ × List E) → IsPrefix last last' → entries_of maker m.0 last' ≡ entries_of maker m.0 last → Mem made last m → Mem made last' m
-  member_on made last last' m ext same h = (prefix_trans m.1 last last' h.0 ext, same ∙ h.1, h.2)
-
-  members_on : (made : ℕ) (last last' : List E) (ms : List (ℕ × List E)) → IsPrefix last last' → ((n : ℕ) → HasNumber ms n → entries_of maker n last' ≡ entries_of maker n last) → Mems made last ms → Mems made last' ms
+  members_on : (made : ℕ) (last last' : List E) (ms : List (ℕ × List E)) → IsPrefix last last' → ((n : ℕ) → HasNumber ms n → entries_of maker n last' ≡ entries_of maker n last) → AreMembers maker made last ms → AreMembers maker made last' ms
   members_on made last last' [] ext same h = tt
   members_on made last last' (m ∷ ms) ext same h = (member_on made last last' m ext (same m.0 (inl refl)) h.0, members_on made last last' ms ext (λ n p. same n (inr p)) h.1)
 
+  owns_on : (made : ℕ) (last last' : List E) (u : V) → IsPrefix last last' → entries_of maker u.number last' ≡ entries_of maker u.number last → Owns maker made last fixed_value u → Owns maker made last' fixed_value u
+  owns_on made last last' u ext same h = record { member = member_on made last last' (u.number, u.seen) ext same h.member; told_begins = prefix_trans u.told last last' h.told_begins ext; has_fixed = h.has_fixed; stands_for_one = h.stands_for_one; told_has_fixed = h.told_has_fixed }
+
   -- the turn passes on, after entries that aren't of this seat
   served : (next serving made : ℕ) (last last' : List E) (j : ℕ) (u : V) (a : Stage) → IsPrefix last last' → ((n : ℕ) → HasNumber (members_at a u) n → entries_of maker n last' ≡ entries_of maker n last) → (has_ticket a ≡ 1 → u.ticket ≢ serving)
-      → Knows story maker fixed next serving made k.seats first last fixed_value j u a → Knows story maker fixed next (serving + 1) made k.seats first last' fixed_value j u a
-  served next serving made last last' j u Maker ext same ne h = (h.0, h.1, h.2, h.3, h.4, prefix_trans u.seen last last' h.5 ext)
-  served next serving made last last' j u Outside ext same ne h = (member_on made last last' (u.number, u.seen) ext (same u.number (inl refl)) h.0, prefix_trans u.told last last' h.1 ext, h.2, h.3, h.4)
-  served next serving made last last' j u Waiting ext same ne h = let n = ne refl in let le = h.1 in
-      ((member_on made last last' (u.number, u.seen) ext (same u.number (inl refl)) h.0.0, prefix_trans u.told last last' h.0.1 ext, h.0.2, h.0.3, h.0.4), omega arith, h.2)
-  served next serving made last last' j u Inside ext same ne h = absurd (ne refl h.1)
-  served next serving made last last' j u Note ext same ne h = (prefix_trans u.seen last last' h.0 ext, h.1, h.2)
-  served next serving made last last' j u Closing ext same ne h = (h.0, members_on made last last' u.members ext same h.1, h.2)
+      → Knows maker next serving made k.seats first last fixed_value j u a → Knows maker next (serving + 1) made k.seats first last' fixed_value j u a
+  served next serving made last last' j u Maker ext same ne h = record { is_first = h.is_first; next_number = h.next_number; to_make = h.to_make; seen_first = h.seen_first; has_fixed = h.has_fixed; begins = prefix_trans u.seen last last' h.begins ext }
+  served next serving made last last' j u Outside ext same ne h = owns_on made last last' u ext (same u.number (inl refl)) h
+  served next serving made last last' j u Waiting ext same ne h = let n = ne refl in let le = h.not_past in
+      record { owns = owns_on made last last' u ext (same u.number (inl refl)) h.owns; not_past = omega arith; drawn = h.drawn }
+  served next serving made last last' j u Inside ext same ne h = absurd (ne refl h.served)
+  served next serving made last last' j u Note ext same ne h = record { begins = prefix_trans u.seen last last' h.begins ext; has_fixed = h.has_fixed; stands_for_none = h.stands_for_none }
+  served next serving made last last' j u Closing ext same ne h = record { has_fixed = h.has_fixed; members = members_on made last last' u.members ext same h.members; counted = h.counted }
   served next serving made last last' j u Spent ext same ne h = h
 
   pub pass_allowed : (n id : ℕ) (me : M) (x : S) → me.0.stage ≡ Inside → me.1 ≡ (0, Some x) ∷ [] → me.0.fixed ≡ Some (fixed x) → Adds maker me.0.number me.0.seen (story x)
       → Allows K n id me 1 (λ y. (y + 1) % 2 ^ 64) (PassesTurn story maker fixed (step n 1 1 0 none) me)
   pass_allowed n id me x is has same_fixed add s r wide at small = let v : V = me.0 in let ys : List E = held_history story maker fixed me.1 in let w : V = outside_view v ys in
-      let kn = knows s r id v Inside at is in let own = kn.0 in let its : ys ≡ story x = ap (held_history story maker fixed) has in
-      let more : Adds maker v.number r.last ys = subst (λ (z : List E × List E). Adds maker v.number z.0 z.1) (λ i. (kn.3 i, sym its i)) add in
+      let kn = knows s r id v Inside at is in let own = kn.owns in let its : ys ≡ story x = ap (held_history story maker fixed) has in
+      let more : Adds maker v.number r.last ys = subst (λ (z : List E × List E). Adds maker v.number z.0 z.1) (λ i. (kn.seen_all i, sym its i)) add in
       let ext : IsPrefix r.last ys = (more.0, sym more.1) in let d = r.drawn in ⊎_elim
-      (λ home. absurd (home.4 id v at is))
+      (λ home. absurd (home.nobody id v at is))
       (λ away. (
         w,
         gives,
@@ -247,21 +260,21 @@ module _ {S E F : Type 0} (story : S → List E) (maker : E → ℕ) (fixed : S 
             (let q : has_ticket v.stage ≡ 1 = ap has_ticket is in omega arith) refl
             (λ m p. subst (λ (z : Stage). HasNumber (members_at z v) m) is p)
             (λ m none. adds_none maker v.number m r.last ys (λ e. none (subst (λ (z : Stage). HasNumber (members_at z v) m) (sym is) (inl (sym e)))) more)
-            ((prefix_refl ys, refl, own.0.2), prefix_trans v.told r.last ys own.1 ext, own.2, own.3, own.4)
+            record { member = record { begins = prefix_refl ys; all_own = refl; numbered = own.member.numbered }; told_begins = prefix_trans v.told r.last ys own.told_begins ext; has_fixed = own.has_fixed; stands_for_one = own.stands_for_one; told_has_fixed = own.told_has_fixed }
             (λ j u ne e. served r.next r.serving r.made r.last ys j u u.stage ext
             (λ m p. adds_none maker v.number m r.last ys (λ same. ne (sym (names_apart s r id v Inside at is j u e m (inl (sym same)) p))) more)
-            (λ two same. ne (sym ((r.apart id j v u at e).1 (ap has_ticket is) two (kn.1 ∙ sym same))))
+            (λ two same. ne (sym ((r.apart id j v u at e).1 (ap has_ticket is) two (kn.served ∙ sym same))))
             (r.each j u e))
             (λ j u ne e. (names_apart s r id v Inside at is j u e, λ z _ _. absurd (omega arith)))
-            (inl (
-              x,
-              (λ i. homes_after (away.4 i) (has i) gives),
-              sym its,
-              ap (λ o. unwrap_or o fixed_value) (sym same_fixed ∙ own.2),
-              λ j u e. ⊎_elim (λ t. out u.stage (ap (λ (z : V). is_inside z.stage) (sym t.1)))
-                  (λ t ins. t.0 (sym ((r.apart id j v u at t.1).1 (ap has_ticket is) (ap has_ticket ins) (kn.1 ∙ sym ((knows s r j u Inside t.1 ins).1)))))
-                  (at_set s.views id j w u e),
-            ))
+            (inl record {
+              state = x;
+              in_slot = λ i. homes_after (away.slot_out i) (has i) gives;
+              history = sym its;
+              has_fixed = ap (λ o. unwrap_or o fixed_value) (sym same_fixed ∙ own.has_fixed);
+              nobody = λ j u e. ⊎_elim (λ t. out u.stage (ap (λ (z : V). is_inside z.stage) (sym t.1)))
+                  (λ t ins. t.0 (sym ((r.apart id j v u at t.1).1 (ap has_ticket is) (ap has_ticket ins) (kn.served ∙ sym (knows s r j u Inside t.1 ins).served))))
+                  (at_set s.views id j w u e);
+            })
             (inr (id, w, here s.views id v w at, inl refl)),
         refl,
       ))
@@ -269,21 +282,22 @@ module _ {S E F : Type 0} (story : S → List E) (maker : E → ℕ) (fixed : S 
 
   pub merge_allowed : (n id : ℕ) (me : M) → me.0.stage ≡ Outside → Allows K n id me 1 (λ x. x) (MergesTold story maker fixed (step n 1 0 0 none) me)
   merge_allowed n id me is s r wide at small = let v : V = me.0 in let w : V = merged_view v in let own = knows s r id v Outside at is in
-      let a = longer_left v.seen v.told r.last own.0.0 own.1 in let b = longer_right v.seen v.told r.last own.0.0 own.1 in let c = longer_begins v.seen v.told r.last own.0.0 own.1 in
-      let same : entries_of maker v.number (longer v.seen v.told) ≡ entries_of maker v.number v.seen = entries_between maker v.number v.seen (longer v.seen v.told) r.last a c own.0.1 in (
+      let a = longer_left v.seen v.told r.last own.member.begins own.told_begins in let b = longer_right v.seen v.told r.last own.member.begins own.told_begins in let c = longer_begins v.seen v.told r.last own.member.begins own.told_begins in
+      let same : entries_of maker v.number (longer v.seen v.told) ≡ entries_of maker v.number v.seen = entries_between maker v.number v.seen (longer v.seen v.told) r.last a c own.member.all_own in (
         w,
         keeps,
         tt,
         moved s r id v w (set s.words 1 (get_or s.words 1 0)) s.homes r.next r.serving r.last at (same_word s r) refl refl
             (λ m p. subst (λ (z : Stage). HasNumber (members_at z w) m) (sym is) (subst (λ (z : Stage). HasNumber (members_at z v) m) is p)) (λ _ _. refl)
-            (subst (λ (z : Stage). Knows story maker fixed r.next r.serving r.made k.seats first r.last fixed_value id w z) (sym is) ((c, own.0.1 ∙ sym same, own.0.2), prefix_nil r.last, own.2, own.3, own.4))
+            (subst (λ (z : Stage). Knows maker r.next r.serving r.made k.seats first r.last fixed_value id w z) (sym is)
+            record { member = record { begins = c; all_own = own.member.all_own ∙ sym same; numbered = own.member.numbered }; told_begins = prefix_nil r.last; has_fixed = own.has_fixed; stands_for_one = own.stands_for_one; told_has_fixed = own.told_has_fixed })
             (λ j u _ e. r.each j u e)
             (λ j u ne e. (subst (λ (z : Stage). (m : ℕ) → HasNumber (members_at z w) m → HasNumber (members_of u) m → id ≡ j) (sym is) (names_apart s r id v Outside at is j u e), (r.apart id j v u at e).1))
             (slot_stays s id v w (set s.words 1 (get_or s.words 1 0)) r.last at (ap is_inside is) (ap is_inside is) r.slot)
             (witness_stays s.views id v w r.last at
             (λ e. subst (λ (z : Stage). AnyHasSeen (members_at z w) r.last) (sym is) (⊎_elim (λ whole. inl (prefix_same v.seen (longer v.seen v.told) r.last a c whole)) (λ none. absurd none) (subst (λ (z : Stage). AnyHasSeen (members_at z v) r.last) is e)))
             r.witnessed),
-        (refl, b, (a, same), own.4 ∙ sym own.2),
+        (refl, b, (a, same), own.told_has_fixed ∙ sym own.has_fixed),
       )
 
   -- the same, for a seat that has just put its state into the slot

@@ -12,43 +12,91 @@ use Rattle.host_turn.specs.History.{entries_of}
 use Rattle.host_turn.specs.Views.{total, has_ticket, HasNumber, AnyHasSeen, tickets_of, share_of, members_of}
 use Rattle.atomic_table.specs.Table.{State}
 
+module _ {E : Type 0} (maker : E → ℕ) where
+  -- what was seen under a number is a beginning of the history `last`, with all entries of that number, and `made` seats were made
+  pub record IsMember (made : ℕ) (last : List E) (m : ℕ × List E) : Type 0 where
+    pub begins : IsPrefix m.1 last
+    pub all_own : entries_of maker m.0 last ≡ entries_of maker m.0 m.1
+    pub numbered : m.0 < made
+
+  abbrev pub AreMembers : ℕ → List E → List (ℕ × List E) → Type 0
+  AreMembers made last [] = Unit {0}
+  AreMembers made last (m ∷ ms) = IsMember made last m × AreMembers made last ms
+
+module _ {E F : Type 0} (maker : E → ℕ) where
+  -- what each seat knows of itself
+  pub record Owns (made : ℕ) (last : List E) (fixed_value : F) (v : View E F) : Type 0 where
+    pub member : IsMember maker made last (v.number, v.seen)
+    pub told_begins : IsPrefix v.told last
+    pub has_fixed : v.fixed ≡ Some fixed_value
+    pub stands_for_one : v.share ≡ 1
+    pub told_has_fixed : v.told_fixed ≡ Some fixed_value
+
+  -- the first view makes the seats, and stands for those that it hasn't made
+  pub record MakesSeats (made seats : ℕ) (first last : List E) (fixed_value : F) (j : ℕ) (v : View E F) : Type 0 where
+    pub is_first : j ≡ 0
+    pub next_number : v.number ≡ made
+    pub to_make : v.share + made ≡ seats
+    pub seen_first : v.seen ≡ first
+    pub has_fixed : v.fixed ≡ Some fixed_value
+    pub begins : IsPrefix v.seen last
+
+  -- a seat waits with a ticket that is drawn and not past
+  pub record Waits (next serving made : ℕ) (last : List E) (fixed_value : F) (v : View E F) : Type 0 where
+    pub owns : Owns made last fixed_value v
+    pub not_past : serving ≤ v.ticket
+    pub drawn : v.ticket < next
+
+  -- a seat whose ticket is served has seen the whole history
+  pub record HasTurn (next serving made : ℕ) (last : List E) (fixed_value : F) (v : View E F) : Type 0 where
+    pub owns : Owns made last fixed_value v
+    pub served : v.ticket ≡ serving
+    pub drawn : v.ticket < next
+    pub seen_all : v.seen ≡ last
+
+  -- a note has what its seat had seen, and stands for no seat
+  pub record Tells (last : List E) (fixed_value : F) (v : View E F) : Type 0 where
+    pub begins : IsPrefix v.seen last
+    pub has_fixed : v.fixed ≡ Some fixed_value
+    pub stands_for_none : v.share ≡ 0
+
+  -- a closing seat stands for the members that it has taken in
+  pub record HasTakenIn (made : ℕ) (last : List E) (fixed_value : F) (v : View E F) : Type 0 where
+    pub has_fixed : v.fixed ≡ Some fixed_value
+    pub members : AreMembers maker made last v.members
+    pub counted : v.share ≡ length v.members
+
+  -- what the j-th view knows, by its stage, where `last` is the history as it was last left
+  abbrev pub Knows : ℕ → ℕ → ℕ → ℕ → List E → List E → F → ℕ → View E F → Stage → Type 0
+  Knows next serving made seats first last fixed_value j v Maker = MakesSeats made seats first last fixed_value j v
+  Knows next serving made seats first last fixed_value j v Outside = Owns made last fixed_value v
+  Knows next serving made seats first last fixed_value j v Waiting = Waits next serving made last fixed_value v
+  Knows next serving made seats first last fixed_value j v Inside = HasTurn next serving made last fixed_value v
+  Knows next serving made seats first last fixed_value j v Note = Tells last fixed_value v
+  Knows next serving made seats first last fixed_value j v Closing = HasTakenIn made last fixed_value v
+  Knows next serving made seats first last fixed_value j v Spent = v.share ≡ 0
+
 module _ {S E F : Type 0} (story : S → List E) (maker : E → ℕ) (fixed : S → F) where
-  -- `last` is the history as it was last left, `made` the number of seats that were made
-  module _ (next serving made seats : ℕ) (first last : List E) (fixed_value : F) where
-    -- what was seen under a number is a beginning of the history, with all entries of that number
-    abbrev pub IsMember : ℕ × List E → Type 0
-    IsMember m = IsPrefix m.1 last × (entries_of maker m.0 last ≡ entries_of maker m.0 m.1) × (m.0 < made)
-
-    abbrev pub AreMembers : List (ℕ × List E) → Type 0
-    AreMembers [] = Unit {0}
-    AreMembers (m ∷ ms) = IsMember m × AreMembers ms
-
-    -- what every seat of the book knows
-    abbrev pub Owns : View E F → Type 0
-    Owns v = IsMember (v.number, v.seen) × IsPrefix v.told last × (v.fixed ≡ Some fixed_value) × (v.share ≡ 1) × (v.told_fixed ≡ Some fixed_value)
-
-    -- what the j-th view knows, by its stage
-    abbrev pub Knows : ℕ → View E F → Stage → Type 0
-    Knows j v Maker = (j ≡ 0) × (v.number ≡ made) × (v.share + made ≡ seats) × (v.seen ≡ first) × (v.fixed ≡ Some fixed_value) × IsPrefix v.seen last
-    Knows j v Outside = Owns v
-    Knows j v Waiting = Owns v × (serving ≤ v.ticket) × (v.ticket < next)
-    Knows j v Inside = Owns v × (v.ticket ≡ serving) × (v.ticket < next) × (v.seen ≡ last)
-    Knows j v Note = IsPrefix v.seen last × (v.fixed ≡ Some fixed_value) × (v.share ≡ 0)
-    Knows j v Closing = (v.fixed ≡ Some fixed_value) × AreMembers v.members × (v.share ≡ length v.members)
-    Knows j v Spent = v.share ≡ 0
-
   -- two views have no number in common, and different tickets
   abbrev pub Apart : ℕ → View E F → ℕ → View E F → Type 0
   Apart i v j w = ((n : ℕ) → HasNumber (members_of v) n → HasNumber (members_of w) n → i ≡ j) × (has_ticket v.stage ≡ 1 → has_ticket w.stage ≡ 1 → v.ticket ≡ w.ticket → i ≡ j)
 
   module _ (k : Opening S) (s : State (Option S) (View E F)) (last : List E) where
     -- nobody has the turn, and the state is in the slot
-    abbrev pub AtHome : Type 0
-    AtHome = (x : S) × (s.homes ≡ some (Some x) ∷ []) × (story x ≡ last) × (fixed x ≡ fixed k.state.value) × ((j : ℕ) (v : View E F) → get_elem? s.views j ≡ some v → v.stage ≢ Inside)
+    pub record AtHome : Type 0 where
+      pub state : S
+      pub in_slot : s.homes ≡ some (Some state) ∷ []
+      pub history : story state ≡ last
+      pub has_fixed : fixed state ≡ fixed k.state.value
+      pub nobody : (j : ℕ) (v : View E F) → get_elem? s.views j ≡ some v → v.stage ≢ Inside
 
     -- a seat has the turn, and the slot
-    abbrev pub Away : Type 0
-    Away = (h : ℕ) × (v : View E F) × (get_elem? s.views h ≡ some v) × (v.stage ≡ Inside) × (s.homes ≡ none ∷ [])
+    pub record Away : Type 0 where
+      pub holder : ℕ
+      pub view : View E F
+      pub found : get_elem? s.views holder ≡ some view
+      pub has_turn : view.stage ≡ Inside
+      pub slot_out : s.homes ≡ none ∷ []
 
   -- nothing was added yet, or some seat has seen the whole history
   abbrev pub IsOpeningOrSeen : List E → List (View E F) → List E → Type 0
@@ -70,7 +118,7 @@ module _ {S E F : Type 0} (story : S → List E) (maker : E → ℕ) (fixed : S 
     pub few : k.seats < 2 ^ 32
     pub within : made ≤ k.seats
     pub others : (n : ℕ) → IsFree s.views n → entries_of maker n last ≡ entries_of maker n (story k.state.value)
-    pub each : (j : ℕ) (v : View E F) → get_elem? s.views j ≡ some v → Knows next serving made k.seats (story k.state.value) last (fixed k.state.value) j v v.stage
+    pub each : (j : ℕ) (v : View E F) → get_elem? s.views j ≡ some v → Knows maker next serving made k.seats (story k.state.value) last (fixed k.state.value) j v v.stage
     pub apart : (i j : ℕ) (v w : View E F) → get_elem? s.views i ≡ some v → get_elem? s.views j ≡ some w → Apart i v j w
     pub witnessed : IsOpeningOrSeen (story k.state.value) s.views last
     pub slot : AtHome k s last ⊎ Away k s last
