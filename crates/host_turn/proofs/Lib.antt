@@ -1,3 +1,4 @@
+mod Examples
 pub mod Totals
 pub mod Histories
 pub mod Stepping
