@@ -1,0 +1,5 @@
+pub mod LegalTests
+pub mod Ranges
+pub mod RealisticRun
+pub mod RefusedRuns
+pub mod StepLines

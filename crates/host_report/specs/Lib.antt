@@ -1,0 +1,7 @@
+pub mod Lawful
+pub mod Laws
+pub mod LogText
+pub mod Played
+pub mod StepText
+pub mod Text
+pub mod Words
