@@ -1,0 +1,123 @@
+-- How a pool is made and closed.
+use Rattle.std.proofs.Common.{◌≡◌, ℕ, zero, suc, ◌+◌, ◌-◌, ◌*◌, ◌<◌, ◌≤◌, List, [], ◌∷◌, ◌++◌, length, get_or, set, take, replicate, Bool, get_or-set_same, get_or-set_other, sym, refl, ap, subst, ◌∙◌, inl, inr, ⊎_elim, All, Vec, Global, append_assoc, length-append, arith}
+use Rattle.std.specs.Prelude.{Option, Some, None, is_some, true, false}
+use mathlib.Core.Logic.{dite}
+use native.Mathlib.Decide.{ℕ_discrete}
+use mathlib.Core.Option.{some, some-injective, some-ne-none}
+use lib.ListN.{get_elem?}
+use Rattle.atomic_table.specs.Table.{Me, Splits, opening, Final, Seen}
+use Rattle.host_frames.specs.declared.rule.Opening.{Opening}
+use Rattle.host_frames.specs.declared.view.View.{View}
+use Rattle.host_frames.specs.declared.view.Claim.{Claim}
+use Rattle.host_frames.specs.declared.seat.PoolSeat.{PoolSeat}
+use Rattle.host_frames.specs.Sums.{total}
+use Rattle.host_frames.specs.Claims.{asked_by, SomeIsRefused}
+use Rattle.host_frames.specs.Views.{first_view, view_after_making, new_seat_view, gathered_view, idle_view}
+use Rattle.host_frames.specs.Homes.{IsBlankPage, IsBlankSlot, pages_at_home}
+use Rattle.host_frames.specs.Moments.{IsIdle}
+use Rattle.host_frames.specs.Seats.{HasGathered, SomeSeatRefused, all_claims, claims, asked, granted, given_back}
+use Rattle.host_frames.proofs.Totals.{total_append}
+use Rattle.host_frames.proofs.Stepping as m
+use Rattle.host_frames.proofs.Seating.{opens, makes, ends}
+
+pub elem_of : {A : Type 0} (xs : List A) (i : ℕ) (d a : A) → i < length xs → get_or xs i d ≡ a → get_elem? xs i ≡ some a
+elem_of [] i d a lt e = absurd (omega arith)
+elem_of (x ∷ xs) zero d a lt e = ap some e
+elem_of (x ∷ xs) (suc i) d a lt e = elem_of xs i d a (omega arith) e
+
+pub opened : (k : Opening) (n : ℕ) (ws : List ℕ) (xs : List (Option (Vec ℕ Global))) → ws ≡ replicate n 0 → k.frames ≤ n * 64 → length xs ≡ k.frames → All (IsBlankSlot k.page_size) xs → m.K IsBlankPage k (opening ws xs (first_view k))
+opened k n ws xs zeros le len blank = subst (λ (z : List ℕ). m.K IsBlankPage k (opening z xs (first_view k))) (sym zeros) (opens IsBlankPage k n xs le
+    (λ f lt. let here = blank f None (omega arith) in (here.0, elem_of xs f None (Some here.0) (omega arith) here.1, here.2)))
+
+pub making : (k : Opening) (id : ℕ) (v : View) (n b : ℕ) → v ≡ idle_view (n + 1) b → Splits (m.K IsBlankPage k) id v (view_after_making v) (new_seat_view v)
+making k id v n b e = subst (λ (z : View). Splits (m.K IsBlankPage k) id z (view_after_making z) (new_seat_view z)) (sym e) (makes IsBlankPage k id n b)
+
+pub made : {S : Type 0} (old new : Me S View) (n left b : ℕ) → old ≡ (idle_view n b, []) → new ≡ (view_after_making old.0, old.1) → n - 1 ≡ left → new ≡ (idle_view left b, [])
+made old new n left b e d is = d ∙ ((λ i. (view_after_making (e i).0, (e i).1)) ∙ (λ i. (idle_view (is i) b, [])))
+
+module _ {S : Type 0} where
+  pub gather_begins : (v : View) (m : Me S View) → m.0 ≡ v → IsIdle m → HasGathered v [] m
+  gather_begins v m same is = (λ i. (same i, is.3 i)) ∙ (λ i. (record { share = (let z : m.0.share ≡ 0 + 1 = (let e = is.0 in omega arith) in ap (λ (u : View). u.share) (sym same) ∙ z) i; page_size = v.page_size; granted = (let z : v.granted ≡ 0 + v.granted = omega arith in z) i; given_back = (let z : v.given_back ≡ 0 + v.given_back = omega arith in z) i; claims = v.claims; frames_out = (ap (λ (u : View). u.frames_out) (sym same) ∙ is.1) i; slots_held = (ap (λ (u : View). u.slots_held) (sym same) ∙ is.2) i }, []))
+
+  pub gather_more : (v : View) (m m' : Me S View) (qs : List PoolSeat) (q : PoolSeat) → HasGathered v qs m → m' ≡ (gathered_view m.0 q.seat.me.0, m.1) → HasGathered v (q ∷ qs) m'
+  gather_more v m m' qs q h e = let w : View = q.seat.me.0 in e ∙ ((λ i. (gathered_view (h i).0 w, (h i).1)) ∙ (λ i. (
+    record {
+      share = (let z : length qs + 1 + w.share ≡ length (q ∷ qs) + 1 = (let one = q.idle.0 in omega arith) in z) i;
+      page_size = v.page_size;
+      granted = (let z : total granted qs + v.granted + w.granted ≡ w.granted + total granted qs + v.granted = omega arith in z) i;
+      given_back = (let z : total given_back qs + v.given_back + w.given_back ≡ w.given_back + total given_back qs + v.given_back = omega arith in z) i;
+      claims = sym (append_assoc w.claims (all_claims qs) v.claims) i;
+      frames_out = ap (λ l. l ++ []) q.idle.1 i;
+      slots_held = ap (λ l. l ++ []) q.idle.2 i;
+    },
+    [],
+  )))
+
+pub asked_append : (cs ds : List Claim) → asked_by (cs ++ ds) ≡ asked_by cs + asked_by ds
+asked_append cs ds = total_append (λ (c : Claim). c.asked) cs ds
+
+pub asked_all : (qs : List PoolSeat) → asked_by (all_claims qs) ≡ total asked qs
+asked_all [] = refl
+asked_all (q ∷ qs) = let more = asked_all qs in let split = asked_append (claims q) (all_claims qs) in omega arith
+
+refused_left : (n : ℕ) (cs ds : List Claim) → SomeIsRefused n cs → SomeIsRefused n (cs ++ ds)
+refused_left n [] ds p = absurd p
+refused_left n (c ∷ cs) ds p = ⊎_elim (λ t. inl t) (λ t. inr (refused_left n cs ds t)) p
+
+refused_right : (n : ℕ) (cs ds : List Claim) → SomeIsRefused n ds → SomeIsRefused n (cs ++ ds)
+refused_right n [] ds p = p
+refused_right n (c ∷ cs) ds p = inr (refused_right n cs ds p)
+
+pub refused_all : (n : ℕ) (qs : List PoolSeat) (q : PoolSeat) → SomeSeatRefused n (qs ++ q ∷ []) → SomeIsRefused n (all_claims qs ++ claims q)
+refused_all n [] q p = ⊎_elim (λ t. t) (λ t. absurd t) p
+refused_all n (r ∷ qs) q p = subst (SomeIsRefused n) (sym (append_assoc (claims r) (all_claims qs) (claims q))) (⊎_elim (λ t. refused_left n (claims r) (all_claims qs ++ claims q) t) (λ t. refused_right n (claims r) (all_claims qs ++ claims q) (refused_all n qs q t)) p)
+
+-- what the last seat tells, once it has taken in all others
+pub closing : (k : Opening) (qs all : List PoolSeat) (q : PoolSeat) (id : ℕ) (m' : Me (Option (Vec ℕ Global)) View) (ws : List ℕ) (xs : List (Option (Vec ℕ Global))) → all ≡ qs ++ q ∷ [] → length all ≡ k.seats → 1 ≤ k.seats → HasGathered q.seat.me.0 qs m' → length xs ≡ k.frames
+    → Final (Seen (m.K IsBlankPage k) id m'.0) ws xs → (pages_at_home xs + total granted all ≡ k.frames + total given_back all) × (SomeSeatRefused k.frames all → k.frames < total asked all)
+closing k qs all q id m' ws xs is count pos has len f = let v : View = m'.0 in
+    let long : length all ≡ length qs + 1 = ap length is ∙ (let l = length-append qs (q ∷ []) in omega arith) in
+    let parts : v.share ≡ length qs + 1 = ap (λ z. z.0.share) has in
+    let e = ends IsBlankPage k id v ws xs (omega arith) pos (ap (λ z. z.0.slots_held) has) len f in
+    let gots : v.granted ≡ total granted qs + granted q = ap (λ z. z.0.granted) has in let backs : v.given_back ≡ total given_back qs + given_back q = ap (λ z. z.0.given_back) has in let cs : v.claims ≡ all_claims qs ++ claims q = ap (λ z. z.0.claims) has in
+    let g : total granted all ≡ total granted qs + (granted q + 0) = ap (total granted) is ∙ total_append granted qs (q ∷ []) in
+    let b : total given_back all ≡ total given_back qs + (given_back q + 0) = ap (total given_back) is ∙ total_append given_back qs (q ∷ []) in
+    let a : total asked all ≡ total asked qs + (asked q + 0) = ap (total asked) is ∙ total_append asked qs (q ∷ []) in
+    let sum : asked_by v.claims ≡ asked_by (all_claims qs) + asked q = ap asked_by cs ∙ asked_append (all_claims qs) (claims q) in let each = asked_all qs in
+    (let home = e.0 in omega arith, λ p. let lt = e.1 (subst (SomeIsRefused k.frames) (sym cs) (refused_all k.frames qs q (subst (SomeSeatRefused k.frames) is p))) in omega arith)
+
+-- one more slot is counted
+home_next : (xs : List (Option (Vec ℕ Global))) (i : ℕ) (o : Option (Vec ℕ Global)) → get_elem? xs i ≡ some o → pages_at_home (take (suc i) xs) ≡ pages_at_home (take i xs) + pages_at_home (o ∷ [])
+home_next [] i o e = absurd (some-ne-none o (sym e))
+home_next (x ∷ xs) zero o e = let same : pages_at_home (x ∷ []) ≡ pages_at_home (o ∷ []) = ap (λ z. pages_at_home (z ∷ [])) (some-injective x o e) in omega arith
+home_next (Some p ∷ xs) (suc i) o e = let more = home_next xs i o e in omega arith
+home_next (None ∷ xs) (suc i) o e = let more = home_next xs i o e in omega arith
+
+pub home_more : (xs : List (Option (Vec ℕ Global))) (i : ℕ) (o : Option (Vec ℕ Global)) → get_elem? xs i ≡ some o → pages_at_home (take (i + 1) xs) ≡ pages_at_home (take i xs) + pages_at_home (o ∷ [])
+home_more xs i o e = let n : i + 1 ≡ suc i = omega arith in ap (λ (z : ℕ). pages_at_home (take z xs)) n ∙ home_next xs i o e
+
+abbrev truth : Bool → ℕ
+truth true = 1
+truth false = 0
+
+pub home_some : (o : Option (Vec ℕ Global)) → is_some o ≡ true → pages_at_home (o ∷ []) ≡ 1
+home_some (Some p) e = omega arith
+home_some None e = let z : ◌≡◌ {A = ℕ} 0 1 = ap truth e in absurd (omega arith)
+
+pub home_none : (o : Option (Vec ℕ Global)) → is_some o ≡ false → pages_at_home (o ∷ []) ≡ 0
+home_none (Some p) e = let z : ◌≡◌ {A = ℕ} 1 0 = ap truth e in absurd (omega arith)
+home_none None e = refl
+
+pub home_most : (o : Option (Vec ℕ Global)) → pages_at_home (o ∷ []) ≤ 1
+home_most (Some p) = omega arith
+home_most None = omega arith
+
+-- the flags of slots that are emptied_view in turn
+pub flags_after : (fs : List Bool) (i n : ℕ) → n ≡ length fs → i < n → ((k : ℕ) → i ≤ k → k < n → get_or fs k false ≡ true) → ((k : ℕ) → k < i → get_or fs k false ≡ false)
+    → ((k : ℕ) → i + 1 ≤ k → k < n → get_or (set fs i false) k false ≡ true) × ((k : ℕ) → k < i + 1 → get_or (set fs i false) k false ≡ false)
+flags_after fs i n len lt high low = (
+  (λ k le b. get_or-set_other fs i k false false (λ e. absurd (omega arith)) ∙ high k (omega arith) b),
+  (λ k b. dite (ℕ_discrete k i)
+      (λ e. ap (λ j. get_or (set fs i false) j false) e ∙ get_or-set_same fs i false false (omega arith))
+      (λ ne. get_or-set_other fs i k false false ne ∙ low k (omega arith))),
+)

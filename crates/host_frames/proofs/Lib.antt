@@ -1,0 +1,9 @@
+pub mod Totals
+pub mod Bits
+pub mod Stepping
+pub mod Seating
+pub mod TableCalls
+pub mod Claiming
+pub mod BadgeLemmas
+pub mod LentPages
+pub mod Closing

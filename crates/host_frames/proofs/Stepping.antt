@@ -1,0 +1,252 @@
+-- The steps of a seat keep the rule of the pool.
+use Rattle.std.proofs.Common.{◌≡◌, ◌≢◌, ℕ, zero, suc, ◌+◌, ◌/◌, ◌%◌, ◌^◌, ◌<◌, ◌≤◌, List, [], ◌∷◌, length, get_or, set, bit_and, bit_or, sym, refl, ap, subst, ◌∙◌, ⊎_elim, eqb, arith}
+use Rattle.std.proofs.lemmas.List.{set-get_or}
+use Rattle.std.specs.Prelude.{Option, Some, None}
+use mathlib.Core.Option.{none, some, some-injective, some-ne-none}
+use mathlib.Core.Option as maybe
+use mathlib.Core.Logic.{dite}
+use native.Mathlib.Decide.{ℕ_discrete, dec_lt}
+use lib.ListN.{get_elem?}
+use prog.Atomic.{either}
+use Rattle.atomic_table.specs.Table.{State, Me, step, keeps, takes, gives, Allows, put_back}
+use Rattle.atomic_table.proofs.Lists.{at_set, set_else, set_here, exchanged}
+use Rattle.host_frames.specs.declared.rule.Opening.{Opening}
+use Rattle.host_frames.specs.declared.view.View.{View}
+use Rattle.host_frames.specs.declared.view.Claim.{Claim}
+use Rattle.host_frames.specs.Sums.{total, count, same, sign, claim_bit}
+use Rattle.host_frames.specs.Claims.{won_by, taken_by, IsFair, AreFair}
+use Rattle.host_frames.specs.Views.{times_out, times_held, named_count, share_of, granted_of, given_back_of, times_won, times_taken, IsQuiet, asking_view, next_of, wins, misses, on_first, winning_view, missing_view, first_of, others, settled_view, reached_view, returned_view, yielded_view}
+use Rattle.host_frames.specs.Rule.{OnePlace}
+use Rattle.host_frames.specs.Steps.{BeginsClaim, TriesFrame, LeavesSlot, TakesSlot, BringsHome, GivesUp}
+use Rattle.host_frames.proofs.Totals.{total_set, total_at, same_here, same_else}
+use Rattle.host_frames.proofs.Bits.{sign_le, sign_pos, but, won, cleared, won_here, won_else, cleared_here, cleared_else, claimed_word}
+
+pub length_set : {A : Type 0} (xs : List A) (i : ℕ) (a : A) → length (set xs i a) ≡ length xs
+length_set [] i a = refl
+length_set (x ∷ xs) zero a = refl
+length_set (x ∷ xs) (suc i) a = let more = length_set xs i a in omega arith
+
+-- a claim that passes one more frame
+pub fair_wins : (c : Claim) → length c.won < c.asked → IsFair c → IsFair (wins c)
+fair_wins c lt h = (
+  omega arith,
+  λ f le. let head : ℕ = same f c.passed in let rest : ℕ = count f c.won in dite (ℕ_discrete f c.passed)
+      (λ e. let one : same f c.passed ≡ 1 = ap (λ z. same f z) (sym e) ∙ same_here f in omega arith)
+      (λ ne. let more = h.1 f (omega arith) in omega arith),
+)
+
+pub fair_misses : (c : Claim) → IsFair c → IsFair (misses c)
+fair_misses c h = (
+  h.0,
+  λ f le. dite (ℕ_discrete f c.passed)
+      (λ e. let one : same f c.passed ≡ 1 = ap (λ z. same f z) (sym e) ∙ same_here f in omega arith)
+      (λ ne. let more = h.1 f (omega arith) in omega arith),
+)
+
+module _ {P : Type 0} (IsBlank : ℕ → P → Type 0) (k : Opening) where
+  abbrev pub St : Type 0
+  St = State (Option P) View
+
+  abbrev pub K : St → Type 0
+  K = OnePlace IsBlank k
+
+  abbrev pub M : Type 0
+  M = Me (Option P) View
+
+  abbrev pub Home : List (maybe.Option (Option P)) → ℕ → Type 0
+  Home hs f = (p : P) × (get_elem? hs f ≡ some (some (Some p))) × IsBlank k.page_size p
+
+  abbrev pub Known : View → Type 0
+  Known v = AreFair v.claims × IsQuiet v × (v.share ≢ 0 → v.page_size ≡ k.page_size)
+
+  -- what stays where one view changes
+  pub moved : (s : St) (r : K s) (id : ℕ) (v w : View) (words' : List ℕ) (homes' : List (maybe.Option (Option P))) → get_elem? s.views id ≡ some v → length words' ≡ length s.words
+      → ((f : ℕ) → times_out f w + times_held f w + claim_bit s.words f ≡ times_out f v + times_held f v + claim_bit words' f)
+      → ((f : ℕ) → k.frames ≤ f → claim_bit words' f ≡ 0)
+      → ((f : ℕ) → f < k.frames → claim_bit words' f ≡ 0 → Home homes' f)
+      → ((f : ℕ) → 1 ≤ total (times_out f) (set s.views id w) → get_elem? homes' f ≡ some (some None))
+      → named_count w + given_back_of w + granted_of v ≡ named_count v + given_back_of v + granted_of w
+      → ((f : ℕ) → times_won f v ≤ times_won f w)
+      → ((f : ℕ) → 1 ≤ claim_bit words' f + times_taken f w → 1 ≤ claim_bit s.words f + times_taken f v + times_won f w)
+      → share_of w ≡ share_of v → Known w
+      → K record { words = words'; homes = homes'; views = set s.views id w }
+  moved s r id v w words' homes' at len one inside home away lent more known same mine = record {
+    words_suffice = (let l = r.words_suffice in omega arith);
+    one_place = λ f. let b = total_set (times_out f) s.views id v w at in let h = total_set (times_held f) s.views id v w at in let o = one f in let was = r.one_place f in omega arith;
+    none_beyond = inside;
+    page_at_home = home;
+    slot_empty = away;
+    granted_or_back = (let a = total_set named_count s.views id v w at in let b = total_set given_back_of s.views id v w at in let g = total_set granted_of s.views id v w at in let was = r.granted_or_back in omega arith);
+    taken_is_won = λ f h. let t = total_set (times_taken f) s.views id v w at in let n = total_set (times_won f) s.views id v w at in let tv = total_at (times_taken f) s.views id v at in let nv = total_at (times_won f) s.views id v at in
+        let m = more f in let was = r.taken_is_won f in let new = known f in dite (dec_lt 0 (claim_bit words' f + times_taken f w))
+        (λ some. let y = new (omega arith) in dite (dec_lt 0 (times_won f w)) (λ z. omega arith) (λ no. let old = was (omega arith) in omega arith))
+        (λ none. let old = was (omega arith) in omega arith);
+    shares = (let p = total_set share_of s.views id v w at in let was = r.shares in let e : total share_of (set s.views id w) ≡ total share_of s.views = omega arith in e ∙ was);
+    each = λ j u e. ⊎_elim (λ t. subst Known t.1 mine) (λ t. r.each j u t.1) (at_set s.views id j w u e);
+  }
+
+  -- a step that leaves the words
+  pub unmoved : (ws ws' : List ℕ) (hs : List (maybe.Option (Option P))) (vs : List View) → ws' ≡ ws → K record { words = ws; homes = hs; views = vs } → K record { words = ws'; homes = hs; views = vs }
+  unmoved ws ws' hs vs e r = subst (λ (z : List ℕ). K record { words = z; homes = hs; views = vs }) (sym e) r
+
+  exchange_same : (n a : ℕ) → either (eqb n a) a n ≡ n
+  exchange_same n a = exchanged n a a (λ z. z ≡ n) (λ e. sym e) (λ _. refl)
+
+  pub begins_keeps : (n id a : ℕ) (me : M) → me.0.share ≡ 1 → Allows K n id me 0 (λ x. either (eqb x a) a x) (BeginsClaim IsBlank (step n 0 a a none) me)
+  begins_keeps n id a me seat s r wide at small = let v : View = me.0 in let w : View = asking_view a v in let known = r.each id v at in (
+    w,
+    keeps,
+    tt,
+    unmoved s.words (set s.words 0 (either (eqb (get_or s.words 0 0) a) a (get_or s.words 0 0))) s.homes (set s.views id w) (ap (λ z. set s.words 0 z) (exchange_same (get_or s.words 0 0) a) ∙ set-get_or s.words 0 0)
+        (moved s r id v w s.words s.homes at refl (λ f. refl) r.none_beyond r.page_at_home (λ f h. let b = total_set (times_out f) s.views id v w at in r.slot_empty f (omega arith)) refl (λ f. omega arith) (λ f h. omega arith) refl
+        (((omega arith, λ f lt. absurd (omega arith)), known.0), (λ z. absurd (omega arith)), known.2)),
+    refl,
+  )
+
+  -- a frame that some view has a slot of, or the page of, is claim_bit
+  is_claimed : (s : St) (r : K s) (id : ℕ) (v : View) (f : ℕ) → get_elem? s.views id ≡ some v → 1 ≤ times_out f v + times_held f v → (claim_bit s.words f ≡ 1) × (f < k.frames) × (f / 64 < length s.words)
+  is_claimed s r id v f at has = let b = total_at (times_out f) s.views id v at in let h = total_at (times_held f) s.views id v at in let one = r.one_place f in let le = sign_le (bit_and (get_or s.words (f / 64) 0) (2 ^ (f % 64))) in
+      let set : claim_bit s.words f ≡ 1 = omega arith in let below : f < k.frames = dite (dec_lt f k.frames) (λ lt. lt) (λ no. let none = r.none_beyond f (omega arith) in absurd (omega arith)) in let l = r.words_suffice in
+      (set, below, claimed_word s.words f (omega arith))
+
+  won_same : (ws : List ℕ) (f g : ℕ) → f / 64 < length ws → claim_bit ws f ≡ 0 → same g f + claim_bit ws g ≡ claim_bit (won ws f) g
+  won_same ws f g lt free = dite (ℕ_discrete g f)
+      (λ e. let a : same g f ≡ 1 = ap (λ z. same z f) e ∙ same_here f in let b : claim_bit (won ws f) g ≡ 1 = ap (claim_bit (won ws f)) e ∙ won_here ws f lt in let c : claim_bit ws g ≡ 0 = ap (claim_bit ws) e ∙ free in omega arith)
+      (λ ne. let a = same_else g f ne in let b = won_else ws f g lt ne in omega arith)
+
+  won_still : (ws : List ℕ) (f g : ℕ) → f / 64 < length ws → claim_bit ws f ≡ 1 → claim_bit (won ws f) g ≡ claim_bit ws g
+  won_still ws f g lt taken = dite (ℕ_discrete g f) (λ e. ap (claim_bit (won ws f)) e ∙ (won_here ws f lt ∙ sym (ap (claim_bit ws) e ∙ taken))) (λ ne. won_else ws f g lt ne)
+
+  cleared_same : (ws : List ℕ) (f g : ℕ) → f / 64 < length ws → claim_bit ws f ≡ 1 → same g f + claim_bit (cleared ws f) g ≡ claim_bit ws g
+  cleared_same ws f g lt taken = dite (ℕ_discrete g f)
+      (λ e. let a : same g f ≡ 1 = ap (λ z. same z f) e ∙ same_here f in let b : claim_bit (cleared ws f) g ≡ 0 = ap (claim_bit (cleared ws f)) e ∙ cleared_here ws f lt in let c : claim_bit ws g ≡ 1 = ap (claim_bit ws) e ∙ taken in omega arith)
+      (λ ne. let a = same_else g f ne in let b = cleared_else ws f g lt ne in omega arith)
+
+  apart : (ws : List ℕ) (f g : ℕ) → claim_bit ws f ≡ 1 → claim_bit ws g ≡ 0 → g ≢ f
+  apart ws f g one free e = let two : claim_bit ws g ≡ claim_bit ws f = ap (claim_bit ws) e in absurd (omega arith)
+
+  pub tries_keeps : (n id : ℕ) (me : M) (c : Claim) (cs : List Claim) → me.0.share ≡ 1 → me.0.claims ≡ c ∷ cs → length c.won < c.asked → next_of me.0.claims < k.frames
+      → Allows K n id me (next_of me.0.claims / 64) (λ x. bit_or x (2 ^ (next_of me.0.claims % 64))) (TriesFrame IsBlank (step n (next_of me.0.claims / 64) (2 ^ (next_of me.0.claims % 64)) 0 none) me)
+  tries_keeps n id me c cs seat its few below s r wide at small = let v : View = me.0 in let f : ℕ = next_of v.claims in let known = r.each id v at in let l = r.words_suffice in
+      let is : f ≡ c.passed = ap next_of its in let lt : f / 64 < length s.words = claimed_word s.words f (omega arith) in let x : ℕ = bit_and (get_or s.words (f / 64) 0) (2 ^ (f % 64)) in
+      let ws : List ℕ = won s.words f in let len = length_set s.words (f / 64) (bit_or (get_or s.words (f / 64) 0) (2 ^ (f % 64))) in
+      let fair : AreFair (c ∷ cs) = subst AreFair its known.0 in
+      let was_won : (g : ℕ) → times_won g v ≡ count g c.won + won_by g cs = λ g. ap (won_by g) its in
+      let was_taken : (g : ℕ) → times_taken g v ≡ count g c.taken + taken_by g cs = λ g. ap (taken_by g) its in
+      let bytes : v.page_size ≡ k.page_size = known.2 (λ z. absurd (omega arith)) in dite (ℕ_discrete x 0)
+      (λ hit. let free : claim_bit s.words f ≡ 0 = ap sign hit in let home = r.page_at_home f below free in let w : View = winning_view v in
+      let now_won : (g : ℕ) → times_won g w ≡ same g f + count g c.won + won_by g cs = λ g. ap (λ z. won_by g (on_first wins z)) its ∙ ap (λ z. same g z + count g c.won + won_by g cs) (sym is) in
+      let now_taken : (g : ℕ) → times_taken g w ≡ count g c.taken + taken_by g cs = λ g. ap (λ z. taken_by g (on_first wins z)) its in (
+        w,
+        takes f (Some home.0),
+        home.1,
+        moved s r id v w ws (set s.homes f none) at len
+            (λ g. let e = won_same s.words f g lt free in omega arith)
+            (λ g le. won_else s.words f g lt (λ e. absurd (omega arith)) ∙ r.none_beyond g le)
+            (λ g b z. let ne : g ≢ f = (λ e. let o : claim_bit ws g ≡ 1 = ap (claim_bit ws) e ∙ won_here s.words f lt in absurd (omega arith)) in let old = r.page_at_home g b (sym (won_else s.words f g lt ne) ∙ z) in (old.0, set_else s.homes f g none ne ∙ old.1, old.2))
+            (λ g h. let b = total_set (times_out g) s.views id v w at in let ne : g ≢ f = (λ e. let o = r.one_place g in let z : claim_bit s.words g ≡ 0 = ap (claim_bit s.words) e ∙ free in absurd (omega arith)) in set_else s.homes f g none ne ∙ r.slot_empty g (omega arith))
+            (omega arith)
+            (λ g. let a = was_won g in let b = now_won g in omega arith)
+            (λ g h. let a = was_taken g in let b = now_taken g in let d = now_won g in let e = won_same s.words f g lt free in omega arith)
+            refl
+            (subst (λ z. AreFair (on_first wins z)) (sym its) (fair_wins c few fair.0, fair.1), (λ z. absurd (omega arith)), known.2),
+        ((λ _. (home.0, refl, subst (λ z. IsBlank z home.0) (sym bytes) home.2)), λ ne. absurd (ne hit)),
+      ))
+      (λ miss. let taken : claim_bit s.words f ≡ 1 = sign_pos x miss in let w : View = missing_view v in let still : (g : ℕ) → claim_bit ws g ≡ claim_bit s.words g = λ g. won_still s.words f g lt taken in
+      let now_won : (g : ℕ) → times_won g w ≡ count g c.won + won_by g cs = λ g. ap (λ z. won_by g (on_first misses z)) its in
+      let now_taken : (g : ℕ) → times_taken g w ≡ same g f + count g c.taken + taken_by g cs = λ g. ap (λ z. taken_by g (on_first misses z)) its ∙ ap (λ z. same g z + count g c.taken + taken_by g cs) (sym is) in (
+        w,
+        keeps,
+        tt,
+        moved s r id v w ws s.homes at len
+            (λ g. let e = still g in omega arith)
+            (λ g le. still g ∙ r.none_beyond g le)
+            (λ g b z. r.page_at_home g b (sym (still g) ∙ z))
+            (λ g h. let b = total_set (times_out g) s.views id v w at in r.slot_empty g (omega arith))
+            refl
+            (λ g. let a = was_won g in let b = now_won g in omega arith)
+            (λ g h. dite (ℕ_discrete g f)
+            (λ e. let o : claim_bit s.words g ≡ 1 = ap (claim_bit s.words) e ∙ taken in omega arith)
+            (λ ne. let a = was_taken g in let b = now_taken g in let d = same_else g f ne in let e = still g in omega arith))
+            refl
+            (subst (λ z. AreFair (on_first misses z)) (sym its) (fair_misses c fair.0, fair.1), (λ z. absurd (omega arith)), known.2),
+        ((λ hit. absurd (miss hit)), λ _. refl),
+      ))
+
+  pub leaves_keeps : (n id : ℕ) (me : M) (l : List (ℕ × Option P)) → n ≡ k.frames → me.0.share ≡ 1 → me.0.slots_held ≡ first_of me.0.slots_held ∷ others me.0.slots_held → me.1 ≡ (first_of me.0.slots_held, None) ∷ l
+      → Allows K n id me 0 (λ x. x) (LeavesSlot IsBlank (step n 0 0 0 none) me)
+  leaves_keeps n id me l slots seat its has s r wide at small = let v : View = me.0 in let f : ℕ = first_of v.slots_held in let w : View = settled_view v in let known = r.each id v at in
+      let was : (g : ℕ) → times_held g v ≡ same g f + count g (others v.slots_held) = λ g. ap (count g) its in
+      let long : length v.slots_held ≡ 1 + length (others v.slots_held) = ap length its ∙ (let e : length (f ∷ others v.slots_held) ≡ 1 + length (others v.slots_held) = omega arith in e) in
+      let taken = is_claimed s r id v f at (let a = was f in let b = same_here f in omega arith) in
+      let put : put_back s.homes me.1 ≡ set s.homes f (some None) = ap (put_back s.homes) has in (
+        w,
+        gives,
+        tt,
+        unmoved s.words (set s.words 0 (get_or s.words 0 0)) (put_back s.homes me.1) (set s.views id w) (set-get_or s.words 0 0)
+            (moved s r id v w s.words (put_back s.homes me.1) at refl
+            (λ g. let a = was g in omega arith)
+            r.none_beyond
+            (λ g b z. let old = r.page_at_home g b z in (old.0, ap (λ hs. get_elem? hs g) put ∙ (set_else s.homes f g (some None) (apart s.words f g taken.0 z) ∙ old.1), old.2))
+            (λ g h. ap (λ hs. get_elem? hs g) put ∙ dite (ℕ_discrete g f)
+            (λ e. ap (λ i. get_elem? (set s.homes f (some None)) i) e ∙ set_here s.homes f (some None) (let lt = taken.1 in omega arith))
+            (λ ne. let b = total_set (times_out g) s.views id v w at in let d = same_else g f ne in set_else s.homes f g (some None) ne ∙ r.slot_empty g (omega arith)))
+            (omega arith) (λ g. omega arith) (λ g h. omega arith) refl (known.0, (λ z. absurd (omega arith)), known.2)),
+        refl,
+      )
+
+  pub takes_keeps : (n id : ℕ) (me : M) → me.0.share ≡ 1 → me.0.frames_out ≡ first_of me.0.frames_out ∷ others me.0.frames_out → Allows K n id me 0 (λ x. x) (TakesSlot IsBlank (step n 0 0 0 none) me)
+  takes_keeps n id me seat its s r wide at small = let v : View = me.0 in let f : ℕ = first_of v.frames_out in let w : View = reached_view v in let known = r.each id v at in
+      let was : (g : ℕ) → times_out g v ≡ same g f + count g (others v.frames_out) = λ g. ap (count g) its in
+      let long : length v.frames_out ≡ 1 + length (others v.frames_out) = ap length its ∙ (let e : length (f ∷ others v.frames_out) ≡ 1 + length (others v.frames_out) = omega arith in e) in
+      let pos : 1 ≤ times_out f v = (let a = was f in let b = same_here f in omega arith) in
+      let taken = is_claimed s r id v f at (omega arith) in let all = total_at (times_out f) s.views id v at in (
+        w,
+        takes f None,
+        r.slot_empty f (omega arith),
+        unmoved s.words (set s.words 0 (get_or s.words 0 0)) (set s.homes f none) (set s.views id w) (set-get_or s.words 0 0)
+            (moved s r id v w s.words (set s.homes f none) at refl
+            (λ g. let a = was g in omega arith)
+            r.none_beyond
+            (λ g b z. let old = r.page_at_home g b z in (old.0, set_else s.homes f g none (apart s.words f g taken.0 z) ∙ old.1, old.2))
+            (λ g h. let b = total_set (times_out g) s.views id v w at in let a = was g in dite (ℕ_discrete g f)
+            (λ e. let d : same g f ≡ 1 = ap (λ z. same z f) e ∙ same_here f in let o = r.one_place g in let one : claim_bit s.words g ≡ 1 = ap (claim_bit s.words) e ∙ taken.0 in absurd (omega arith))
+            (λ ne. let d = same_else g f ne in set_else s.homes f g none ne ∙ r.slot_empty g (omega arith)))
+            (omega arith) (λ g. omega arith) (λ g h. omega arith) refl (known.0, (λ z. absurd (omega arith)), known.2)),
+        refl,
+      )
+
+  -- a bit is cleared, and the page is at home
+  clears : (n id : ℕ) (me : M) (w : View) (p : P) (l : List (ℕ × Option P)) → n ≡ k.frames → me.0.share ≡ 1 → me.0.slots_held ≡ first_of me.0.slots_held ∷ others me.0.slots_held → me.1 ≡ (first_of me.0.slots_held, Some p) ∷ l → IsBlank me.0.page_size p
+      → ((g : ℕ) → times_out g w ≡ times_out g me.0) → ((g : ℕ) → times_held g w ≡ count g (others me.0.slots_held)) → named_count w + given_back_of w + granted_of me.0 ≡ named_count me.0 + given_back_of me.0 + granted_of w → w.claims ≡ me.0.claims → w.share ≡ me.0.share → w.page_size ≡ me.0.page_size
+      → (s : St) → K s → length s.homes ≡ n → get_elem? s.views id ≡ some me.0 → K record { words = cleared s.words (first_of me.0.slots_held); homes = put_back s.homes me.1; views = set s.views id w }
+  clears n id me w p l slots seat its has blank eb eh count_same ec ep ey s r wide at = let v : View = me.0 in let f : ℕ = first_of v.slots_held in let known = r.each id v at in
+      let was : (g : ℕ) → times_held g v ≡ same g f + count g (others v.slots_held) = λ g. ap (count g) its in
+      let taken = is_claimed s r id v f at (let a = was f in let b = same_here f in omega arith) in let lt = taken.2 in let ws : List ℕ = cleared s.words f in
+      let put : put_back s.homes me.1 ≡ set s.homes f (some (Some p)) = ap (put_back s.homes) has in let bytes : v.page_size ≡ k.page_size = known.2 (λ z. absurd (omega arith)) in
+      moved s r id v w ws (put_back s.homes me.1) at (length_set s.words (f / 64) (bit_and (get_or s.words (f / 64) 0) (but (f % 64))))
+      (λ g. let a = was g in let b = eb g in let h = eh g in let c = cleared_same s.words f g lt taken.0 in omega arith)
+      (λ g le. let below = taken.1 in cleared_else s.words f g lt (λ e. absurd (omega arith)) ∙ r.none_beyond g le)
+      (λ g b z. dite (ℕ_discrete g f)
+      (λ e. (p, ap (λ hs. get_elem? hs g) put ∙ (ap (λ i. get_elem? (set s.homes f (some (Some p))) i) e ∙ set_here s.homes f (some (Some p)) (let below = taken.1 in omega arith)), subst (λ z. IsBlank z p) bytes blank))
+      (λ ne. let old = r.page_at_home g b (sym (cleared_else s.words f g lt ne) ∙ z) in (old.0, ap (λ hs. get_elem? hs g) put ∙ (set_else s.homes f g (some (Some p)) ne ∙ old.1), old.2)))
+      (λ g h. let b = total_set (times_out g) s.views id v w at in let e = eb g in let ne : g ≢ f = (λ e'. let o = r.one_place g in let one : claim_bit s.words g ≡ 1 = ap (claim_bit s.words) e' ∙ taken.0 in
+      let d : same g f ≡ 1 = ap (λ z. same z f) e' ∙ same_here f in let a = was g in let th = total_at (times_held g) s.views id v at in absurd (omega arith)) in ap (λ hs. get_elem? hs g) put ∙ (set_else s.homes f g (some (Some p)) ne ∙ r.slot_empty g (omega arith)))
+      count_same
+      (λ g. let e = ap (won_by g) ec in omega arith)
+      (λ g h. let e = ap (taken_by g) ec in let c = cleared_same s.words f g lt taken.0 in omega arith)
+      ep
+      (subst AreFair (sym ec) known.0, (λ z. absurd (omega arith)), λ z. ey ∙ bytes)
+
+  less_long : (xs : List ℕ) → xs ≡ first_of xs ∷ others xs → length xs ≡ 1 + length (others xs)
+  less_long xs its = ap length its ∙ (let e : length (first_of xs ∷ others xs) ≡ 1 + length (others xs) = omega arith in e)
+
+  pub brings_keeps : (n id : ℕ) (me : M) (p : P) (l : List (ℕ × Option P)) → n ≡ k.frames → me.0.share ≡ 1 → me.0.slots_held ≡ first_of me.0.slots_held ∷ others me.0.slots_held → me.1 ≡ (first_of me.0.slots_held, Some p) ∷ l → IsBlank me.0.page_size p
+      → Allows K n id me (first_of me.0.slots_held / 64) (λ x. bit_and x (but (first_of me.0.slots_held % 64))) (BringsHome IsBlank (step n (first_of me.0.slots_held / 64) (but (first_of me.0.slots_held % 64)) 0 none) me)
+  brings_keeps n id me p l slots seat its has blank s r wide at small = let long = less_long me.0.slots_held its in
+      (returned_view me.0, gives, tt, clears n id me (returned_view me.0) p l slots seat its has blank (λ g. refl) (λ g. refl) (omega arith) refl refl refl s r wide at, refl)
+
+  pub gives_up_keeps : (n id : ℕ) (me : M) (p : P) (l : List (ℕ × Option P)) → n ≡ k.frames → me.0.share ≡ 1 → 1 ≤ me.0.granted → me.0.slots_held ≡ first_of me.0.slots_held ∷ others me.0.slots_held → me.1 ≡ (first_of me.0.slots_held, Some p) ∷ l → IsBlank me.0.page_size p
+      → Allows K n id me (first_of me.0.slots_held / 64) (λ x. bit_and x (but (first_of me.0.slots_held % 64))) (GivesUp IsBlank (step n (first_of me.0.slots_held / 64) (but (first_of me.0.slots_held % 64)) 0 none) me)
+  gives_up_keeps n id me p l slots seat pos its has blank s r wide at small = let long = less_long me.0.slots_held its in
+      (yielded_view me.0, gives, tt, clears n id me (yielded_view me.0) p l slots seat its has blank (λ g. refl) (λ g. refl) (omega arith) refl refl refl s r wide at, refl)

@@ -1,0 +1,36 @@
+-- Claims: what each asked for, won and found taken.
+use Rattle.std.specs.Prelude.{◌≡◌, ◌⊎◌, ℕ, ◌+◌, ◌<◌, ◌≤◌, List, [], ◌∷◌, length}
+use Rattle.host_frames.specs.declared.view.Claim.{Claim}
+use Rattle.host_frames.specs.Sums.{total, count}
+
+-- how often a frame was won by the claims
+abbrev pub won_by : ℕ → List Claim → ℕ
+won_by f cs = total (λ c. count f c.won) cs
+
+-- how often they found it taken
+abbrev pub taken_by : ℕ → List Claim → ℕ
+taken_by f cs = total (λ c. count f c.taken) cs
+
+-- how many frames they asked for
+abbrev pub asked_by : List Claim → ℕ
+asked_by cs = total (λ c. c.asked) cs
+
+-- the claim has got each frame below a number, or found it taken
+abbrev pub Covers : ℕ → Claim → Type 0
+Covers n c = (f : ℕ) → f < n → 1 ≤ count f c.won + count f c.taken
+
+-- it won no more than it asked for
+abbrev pub IsFair : Claim → Type 0
+IsFair c = (length c.won ≤ c.asked) × Covers c.passed c
+
+abbrev pub AreFair : List Claim → Type 0
+AreFair [] = Unit {0}
+AreFair (c ∷ cs) = IsFair c × AreFair cs
+
+-- the claim went over all frames of the pool, and got too few
+abbrev pub IsRefused : ℕ → Claim → Type 0
+IsRefused frames c = (c.passed ≡ frames) × (length c.won < c.asked)
+
+abbrev pub SomeIsRefused : ℕ → List Claim → Type 0
+SomeIsRefused frames [] = ⊥
+SomeIsRefused frames (c ∷ cs) = IsRefused frames c ⊎ SomeIsRefused frames cs

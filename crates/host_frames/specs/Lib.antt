@@ -1,0 +1,11 @@
+pub mod Sums
+pub mod Claims
+pub mod Views
+pub mod Rule
+pub mod Steps
+pub mod Homes
+pub mod Badges
+pub mod Moments
+pub mod Seats
+pub mod PageLending
+pub mod PagesLending
