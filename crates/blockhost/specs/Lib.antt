@@ -1,0 +1,10 @@
+pub mod Buffer
+pub mod Part
+pub mod Refusals
+pub mod Room
+pub mod Script
+pub mod Session
+pub mod Statuses
+pub mod Untold
+pub mod Words
+pub mod Writes

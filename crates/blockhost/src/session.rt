@@ -1,0 +1,10 @@
+//! The one-thread server: each record is taken and carried out when it is sent.
+
+mod buffer;
+mod history;
+mod play;
+mod serve;
+mod verdict;
+
+pub use history::{History, Room};
+pub use play::play;

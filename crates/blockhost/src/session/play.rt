@@ -1,0 +1,201 @@
+//! The client's side: the lines of a script, one after the other.
+ghost use Rattle.std.specs.Prelude.{◌≡◌, ◌+◌, ◌*◌, ◌^◌, ◌<◌, ◌≤◌, ◌∷◌, [], length, is_some, unwrap_or, IfSome, IsTrue, ◌↔◌};
+ghost use Rattle.host_io.specs.Disks.{OnlyReads};
+ghost use Rattle.blockhost.specs.Buffer.{pages_of, size_of};
+ghost use Rattle.blockhost.specs.Room.{IsRoomFor, most_steps};
+ghost use Rattle.blockhost.specs.Script.{IsSmall, shown_count};
+ghost use Rattle.blockhost.specs.Session.{GrowsBy, answer_bytes, attach_events, read_request, received_events, sent_events, with_more};
+
+use super::buffer::Buffer;
+use super::history::{History, Room};
+use super::serve::serve;
+use crate::script::{ReadLine, ShortScript, ShowLine};
+use host_block::{BlockSize, Bytes, Range};
+use host_io::Disk;
+use host_model::{AttachError, Event, Events};
+use host_record::{Request, Response, Status};
+use std::alloc::Global;
+
+/// Plays the script on the partition of this range.
+pub fn play<D: Disk>(
+    alloc: Global,
+    script: &ShortScript,
+    range: Range,
+    size: BlockSize,
+    disk: &mut D,
+    room: Room,
+) -> History
+    requires small { IsSmall script.now }
+    requires inside { range.first + range.count ≤ (D.shape disk.old).blocks }
+    requires fits { range.first + range.count < 2 ^ 64 }
+    requires size { size ≡ (D.shape disk.old).size }
+    requires room { IsRoomFor script.now size room }
+    ensures shape { D.shape disk.new ≡ D.shape disk.old }
+    ensures state { D.state disk.new ≡ D.state disk.old }
+    ensures opening { D.opening disk.new ≡ D.opening disk.old }
+    ensures counts { OnlyReads (D.counts disk.old) (D.counts disk.new) (D.never_fails disk.old) (D.never_fails disk.new) }
+    ensures room { length result.steps.items < result.steps.room }
+{
+    let Room { mut history, shown } = room;
+    let mut buffer = attach(alloc, script.attach, size, &mut history.log);
+    let answer = send(alloc, disk, range, script.read, &mut buffer, &mut history);
+    let (waited, drained) = split(answer, script.waits);
+    receive(waited, &mut history.log);
+    show(alloc, script.show, &buffer, shown, &mut history.log);
+    receive(drained, &mut history.log);
+    history.log.push(Event::Drained);
+    history
+}
+
+// Attaches a buffer, which gets the id 1.
+fn attach(alloc: Global, pages: Option<u32>, size: BlockSize, log: &mut Events) -> Option<Buffer>
+    requires few { unwrap_or pages 0 ≤ 4096 }
+    requires room { length log.old.items < log.old.room }
+    ensures size { IfSome result (λ buffer. size_of buffer ≡ size) }
+    ensures log { log.new ≡ with_more log.old (attach_events pages (is_some result)) }
+    ensures grows { GrowsBy log.old log.new 1 }
+{
+    let pages = pages?;
+    match Buffer::zeroed(alloc, pages, size) {
+        Ok(buffer) => {
+            log.push(Event::Attached { pages, id: 1 });
+            Some(buffer)
+        }
+        Err(_) => {
+            log.push(Event::NotAttached {
+                pages,
+                cause: AttachError::Oom,
+            });
+            None
+        }
+    }
+}
+
+// Sends a read, which is taken and carried out, and gives its answer.
+fn send<D: Disk>(
+    alloc: Global,
+    disk: &mut D,
+    range: Range,
+    line: Option<ReadLine>,
+    buffer: &mut Option<Buffer>,
+    history: &mut History,
+) -> Option<[u8; 32]>
+    requires inside { range.first + range.count ≤ (D.shape disk.old).blocks }
+    requires fits { range.first + range.count < 2 ^ 64 }
+    requires size { IfSome buffer.old (λ b. size_of b ≡ (D.shape disk.old).size) }
+    requires events { length history.old.log.items < history.old.log.room }
+    requires rows { length history.old.taken.items < history.old.taken.room }
+    requires steps { length history.old.steps.items + most_steps line ≤ history.old.steps.room }
+    ensures shape { D.shape disk.new ≡ D.shape disk.old }
+    ensures state { D.state disk.new ≡ D.state disk.old }
+    ensures opening { D.opening disk.new ≡ D.opening disk.old }
+    ensures counts { OnlyReads (D.counts disk.old) (D.counts disk.new) (D.never_fails disk.old) (D.never_fails disk.new) }
+    ensures log { history.new.log ≡ with_more history.old.log (sent_events line) }
+    ensures grows { GrowsBy history.old.log history.new.log 1 }
+    ensures steps { GrowsBy history.old.steps history.new.steps (most_steps line) }
+    ensures size { IfSome buffer.new (λ b. size_of b ≡ (D.shape disk.old).size) }
+{
+    let request = request_of(line?);
+    history.log.push(Event::Sent {
+        index: 0,
+        bytes: request.to_bytes(),
+    });
+    let row = serve(alloc, disk, range, &request, buffer, &mut history.steps);
+    history.taken.push(row);
+    Some(answer_of(&request, row.outcome))
+}
+
+// The record of a line `read`.
+fn request_of(line: ReadLine) -> Request
+    ensures { result ≡ read_request line }
+{
+    Request {
+        command: 1,
+        reqid: line.reqid,
+        group: 0,
+        vmoid: line.id,
+        length: line.length,
+        vmo_offset: line.buffer_offset,
+        dev_offset: line.device_offset,
+    }
+}
+
+// The answer to a record alone.
+fn answer_of(request: &Request, outcome: Status) -> [u8; 32]
+    ensures { result ≡ answer_bytes request.now outcome }
+{
+    let response = Response {
+        status: outcome.number(),
+        reqid: request.reqid,
+        group: 0,
+        count: 1,
+    };
+    response.to_bytes()
+}
+
+// The answer that is received at a `wait`, and the one at the end.
+fn split(answer: Option<[u8; 32]>, waits: bool) -> (Option<[u8; 32]>, Option<[u8; 32]>) {
+    if waits {
+        (answer, None)
+    } else {
+        (None, answer)
+    }
+}
+
+// Receives an answer, where there is one.
+fn receive(answer: Option<[u8; 32]>, log: &mut Events)
+    requires { length log.old.items < log.old.room }
+    ensures log { log.new ≡ with_more log.old (received_events answer) }
+    ensures grows { GrowsBy log.old log.new 1 }
+{
+    if let Some(bytes) = answer {
+        log.push(Event::Received { bytes });
+    }
+}
+
+// Shows blocks of the buffer, where it has them, in a piece that is as long as they are.
+fn show(
+    alloc: Global,
+    line: Option<ShowLine>,
+    buffer: &Option<Buffer>,
+    into: Bytes,
+    log: &mut Events,
+)
+    requires room { length log.old.items < log.old.room }
+    requires into { IfSome buffer.now (λ b. length into ≡ shown_count line * size_of b) }
+    ensures grows { GrowsBy log.old log.new 1 }
+{
+    let Some(line) = line else {
+        return;
+    };
+    let (done, bytes) = shown(alloc, line, buffer, into);
+    log.push(Event::Shown {
+        id: line.id,
+        block: line.block,
+        count: line.count,
+        done,
+        bytes,
+    });
+}
+
+// Whether the buffer has these blocks, and their bytes; no bytes where it hasn't.
+fn shown(alloc: Global, line: ShowLine, buffer: &Option<Buffer>, into: Bytes) -> (bool, Bytes)
+    requires { IfSome buffer.now (λ b. length into ≡ line.count * size_of b) }
+{
+    let mut into = into;
+    match buffer {
+        Some(buffer) if line.id == 1 && has_blocks(buffer.pages(), line.block, line.count) => {
+            into.as_mut_slice()
+                .copy_from_slice(buffer.pages_from(line.block, line.count));
+            (true, into)
+        }
+        _ => (false, Bytes::empty(alloc)),
+    }
+}
+
+// Whether these blocks lie among so many pages.
+fn has_blocks(pages: u32, block: u32, count: u32) -> bool
+    ensures { IsTrue result ↔ (block + count ≤ pages) }
+{
+    count <= pages && block <= pages - count
+}

@@ -1,0 +1,81 @@
+//! Words of a line.
+ghost use Rattle.std.specs.Prelude.{◌≡◌};
+ghost use Rattle.host_io.specs.Causes.{HasCause};
+
+use super::put::put;
+use hex::encode_to_slice;
+use host_io::{Sink, SinkFailed};
+use itoa::{Buffer, Integer};
+
+/// A word, as it is printed.
+#[derive(Clone, Copy)]
+pub enum Word<'a> {
+    Text(&'a [u8]),
+    /// In decimal digits.
+    Number(u64),
+    /// In decimal digits, with a sign where it is negative.
+    Signed(i32),
+    /// Each byte as two hexadecimal digits.
+    Hex(&'a [u8]),
+    /// The bytes of a block: `all HH` where they are equal, else each.
+    Block(&'a [u8]),
+}
+
+/// `yes` or `no`.
+pub fn yes_or_no<'a>(yes: bool) -> Word<'a> {
+    Word::Text(if yes { b"yes" } else { b"no" })
+}
+
+/// Puts a word.
+pub fn put_word<K: Sink>(out: &mut K, word: &Word<'_>) -> Result<(), SinkFailed>
+    ensures tells { K.tells out.new ≡ K.tells out.old }
+    ensures cause { HasCause (K.faults out.old) (K.faults out.new) result }
+{
+    match *word {
+        Word::Text(text) => put(out, text),
+        Word::Number(n) => put_number(out, n),
+        Word::Signed(n) => put_number(out, n),
+        Word::Hex(bytes) => put_hex(out, bytes),
+        Word::Block(bytes) => put_block(out, bytes),
+    }
+}
+
+fn put_number<K: Sink, N: Integer>(out: &mut K, n: N) -> Result<(), SinkFailed>
+    ensures tells { K.tells out.new ≡ K.tells out.old }
+    ensures cause { HasCause (K.faults out.old) (K.faults out.new) result }
+{
+    let mut buffer = Buffer::new();
+    put(out, buffer.format(n).as_bytes())
+}
+
+fn put_block<K: Sink>(out: &mut K, bytes: &[u8]) -> Result<(), SinkFailed>
+    ensures tells { K.tells out.new ≡ K.tells out.old }
+    ensures cause { HasCause (K.faults out.old) (K.faults out.new) result }
+{
+    match bytes.first() {
+        Some(first) if bytes.iter().all(|byte| byte == first) => {
+            put(out, b"all ")?;
+            put_byte(out, *first)
+        }
+        _ => put_hex(out, bytes),
+    }
+}
+
+fn put_hex<K: Sink>(out: &mut K, bytes: &[u8]) -> Result<(), SinkFailed>
+    ensures tells { K.tells out.new ≡ K.tells out.old }
+    ensures cause { HasCause (K.faults out.old) (K.faults out.new) result }
+{
+    for byte in bytes {
+        put_byte(out, *byte)?;
+    }
+    Ok(())
+}
+
+fn put_byte<K: Sink>(out: &mut K, byte: u8) -> Result<(), SinkFailed>
+    ensures tells { K.tells out.new ≡ K.tells out.old }
+    ensures cause { HasCause (K.faults out.old) (K.faults out.new) result }
+{
+    let mut digits = [0u8; 2];
+    let _ = encode_to_slice([byte], &mut digits);
+    put(out, &digits)
+}
