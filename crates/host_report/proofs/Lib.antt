@@ -1,5 +1,8 @@
+mod PrintedLemmas
+mod Putting
 pub mod LegalTests
 pub mod Ranges
 pub mod RealisticRun
+pub mod RealisticSteps
 pub mod RefusedRuns
 pub mod StepLines

@@ -18,7 +18,8 @@ use Rattle.host_report.specs.declared.report.Report.{Report}
 use Rattle.host_report.specs.declared.session.SessionReport.{SessionReport}
 use Rattle.host_report.specs.Lawful.{IsLawfulRun, closing_flush}
 use Rattle.host_report.specs.Played.{Ask, IsPlayed, Plan, attach, fill, send, show, wait_all}
-use Rattle.host_report.specs.Text.{report_text, summary_text}
+use Rattle.host_report.specs.Summary.{summary_text}
+use Rattle.host_report.specs.Text.{report_text}
 use Rattle.host_report.proofs.LegalTests.{legal-from}
 
 abbrev pub in_room : {A : Type 0} → List A → WithRoom A

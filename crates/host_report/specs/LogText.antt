@@ -40,9 +40,13 @@ block_of size bytes k = take size (drop (k * size) bytes)
 abbrev pub shown_line : ℕ → ℕ → List ℕ → ℕ → List ℕ
 shown_line size block bytes k = innermost (decimal (block + k) ∷ block_word (block_of size bytes k) ∷ [])
 
+-- the lines of so many blocks that were shown, from this block on
+abbrev pub shown_text : ℕ → ℕ → ℕ → List ℕ → List ℕ
+shown_text size block count bytes = flat_map (shown_line size block bytes) (below count)
+
 -- the lines of the blocks that an event showed
 abbrev pub shown_lines : ℕ → Event → List ℕ
-shown_lines size (Shown id block count true bytes) = flat_map (shown_line size block bytes) (below count)
+shown_lines size (Shown id block count true bytes) = shown_text size block count bytes
 shown_lines size _ = []
 
 abbrev pub event_text : ℕ → Event → List ℕ

@@ -1,5 +1,5 @@
 -- The text of what was taken, of the buffers' history and of the device's steps.
-use Rattle.std.specs.Prelude.{ℕ, Bool, true, false, List, [], ◌∷◌, decimal, codes}
+use Rattle.std.specs.Prelude.{ℕ, Bool, true, false, List, [], ◌∷◌, ◌++◌, decimal, codes}
 use Rattle.std.specs.Fmt.{signed_decimal}
 use Rattle.host_block.specs.declared.op.Op.{Op}
 use Rattle.host_block.specs.declared.op.Op.TheVariants as op
@@ -63,6 +63,10 @@ bytes_words op.Write faulted bytes = block_word bytes ∷ []
 bytes_words op.Read false bytes = block_word bytes ∷ []
 bytes_words _ faulted bytes = []
 
+-- the words of a step but for its bytes
+abbrev pub step_words : Step → List (List ℕ)
+step_words step = codes "step" ∷ decimal step.session ∷ decimal step.index ∷ decimal step.k ∷ op_word step.op
+    ∷ decimal (printed_block step.op step.block) ∷ ok_or_fault step.faulted ∷ []
+
 abbrev pub step_line : Step → List ℕ
-step_line step = inner (codes "step" ∷ decimal step.session ∷ decimal step.index ∷ decimal step.k ∷ op_word step.op
-    ∷ decimal (printed_block step.op step.block) ∷ ok_or_fault step.faulted ∷ bytes_words step.op step.faulted step.bytes)
+step_line step = inner (step_words step ++ bytes_words step.op step.faulted step.bytes)

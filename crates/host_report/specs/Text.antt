@@ -1,11 +1,9 @@
--- The text of a report and of its summary.
-use Rattle.std.specs.Prelude.{ℕ, ◌-◌, Bool, true, false, ◌==◌, List, [], ◌∷◌, ◌++◌, length, flat_map, sum_by, decimal, codes}
+-- The text of a report.
+use Rattle.std.specs.Prelude.{ℕ, Bool, true, false, List, [], ◌∷◌, ◌++◌, length, flat_map, decimal, codes}
 use Rattle.std.specs.List.{enumerate_from}
-use Rattle.byteorder.specs.Endian.{little_number}
 use Rattle.host_gpt.specs.declared.which.Which.{Which}
 use Rattle.host_gpt.specs.declared.which.Which.TheVariants.{Primary, Backup}
-use Rattle.host_model.specs.Lists.{count}
-use Rattle.host_model.specs.Log.{sent, received}
+use Rattle.host_model.specs.declared.step.Step.{Step}
 use Rattle.host_report.specs.declared.closing.Closing.{Closing}
 use Rattle.host_report.specs.declared.closing.Closing.TheVariants as closing
 use Rattle.host_report.specs.declared.report.Report.{Report}
@@ -46,6 +44,9 @@ end_line = line (codes "end" ∷ [])
 
 -- ---- the report
 
+abbrev pub head_text : Report → List ℕ
+head_text report = image_line report.blocks report.size ++ table_line report.which
+
 -- what a session took and what was done to its buffers, where steps are printed
 abbrev pub taken_text : Bool → SessionReport → List ℕ
 taken_text true s = flat_map row_line (enumerate_from 0 s.taken.items) ++ flat_map entry_line s.memory.items
@@ -54,44 +55,21 @@ taken_text false s = []
 abbrev pub session_text : ℕ → Bool → SessionReport → List ℕ
 session_text size steps s = session_line s ++ flat_map (event_text size) s.log.items ++ taken_text steps s
 
+abbrev pub step_lines : Bool → List Step → List ℕ
+step_lines true steps = flat_map step_line steps
+step_lines false steps = []
+
+-- the number of steps, and the steps where they are printed
 abbrev pub steps_text : Bool → Report → List ℕ
-steps_text true report = flat_map step_line report.steps.items
-steps_text false report = []
+steps_text steps report = steps_line (length report.steps.items) ++ step_lines steps report.steps.items
+
+abbrev pub end_text : Closing → List ℕ
+end_text c = closing_line c ++ end_line
 
 -- the text of a report, with its steps or without
 abbrev pub report_text : Report → Bool → List ℕ
 report_text report steps =
-    image_line report.blocks report.size
-    ++ table_line report.which
+    head_text report
     ++ flat_map (session_text report.size steps) report.sessions.items
-    ++ steps_line (length report.steps.items)
     ++ steps_text steps report
-    ++ closing_line report.closing
-    ++ end_line
-
--- ---- the summary
-
-abbrev pub records_sent : Report → ℕ
-records_sent report = sum_by (λ s. length (sent s.log.items)) report.sessions.items
-
-abbrev pub answers_received : Report → List (List ℕ)
-answers_received report = flat_map (λ s. received s.log.items) report.sessions.items
-
--- an answer with status 0
-abbrev pub is_good_answer : List ℕ → Bool
-is_good_answer bytes = little_number 4 bytes == 0
-
-abbrev pub load_line : ℕ → ℕ → List ℕ
-load_line sessions records = line (codes "load" ∷ decimal sessions ∷ codes "sessions" ∷ decimal records ∷ codes "records" ∷ [])
-
-abbrev pub answers_line : ℕ → ℕ → List ℕ
-answers_line answers good = line (codes "answers" ∷ decimal answers ∷ codes "ok" ∷ decimal good ∷ codes "failed" ∷ decimal (answers - good) ∷ [])
-
--- the text of a summary
-abbrev pub summary_text : Report → List ℕ
-summary_text report =
-    load_line (length report.sessions.items) (records_sent report)
-    ++ answers_line (length (answers_received report)) (count is_good_answer (answers_received report))
-    ++ steps_line (length report.steps.items)
-    ++ closing_line report.closing
-    ++ end_line
+    ++ end_text report.closing
