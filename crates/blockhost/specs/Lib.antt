@@ -1,5 +1,5 @@
 pub mod Buffer
-pub mod Part
+pub mod Printed
 pub mod Refusals
 pub mod Room
 pub mod Script

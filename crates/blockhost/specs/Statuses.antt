@@ -1,9 +1,9 @@
 -- How a run ends.
 use Rattle.std.specs.Prelude.{◌≡◌, ◌≢◌, ℕ, Bool, true, false, List, [], Option, Some, None, IsSome}
 use Rattle.blockhost.specs.Script.{IsReadOut}
-use Rattle.blockhost.specs.declared.report.Closing.{Closing}
-use Rattle.blockhost.specs.declared.report.Closing.TheVariants.{Good, Fault, Cut, NoMemory}
-use Rattle.blockhost.specs.declared.report.Report.{Report}
+use Rattle.host_report.specs.declared.closing.Closing.{Closing}
+use Rattle.host_report.specs.declared.closing.Closing.TheVariants.{Good, Fault, Cut, NoMemory}
+use Rattle.host_report.specs.declared.report.Report.{Report}
 use Rattle.blockhost.specs.declared.status.RunStatus.{RunStatus}
 use Rattle.blockhost.specs.declared.status.RunStatus.TheVariants.{Done, ClosingFault, BadWords, NoTable, BadScript, DiskFault, ScriptFault, SinkFault, OutOfMemory, TooLarge, NoPart, NotBuilt}
 

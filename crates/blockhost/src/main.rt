@@ -5,10 +5,8 @@
 mod dry;
 mod outcome;
 mod outside;
-mod part;
 mod played;
 mod refusal;
-mod report;
 mod run;
 mod script;
 mod session;

@@ -2,15 +2,15 @@
 ghost use Rattle.std.specs.Prelude.{◌≡◌, ◌≢◌, ◌<◌, length, IsTrue, false};
 ghost use Rattle.host_io.specs.Causes.{Rose};
 ghost use Rattle.host_io.specs.Disks.{Calls};
-ghost use Rattle.blockhost.specs.declared.report.Closing.TheVariants.{Fault as ClosingFault};
+ghost use Rattle.host_report.specs.declared.closing.Closing.TheVariants.{Fault as ClosingFault};
 
-use crate::report::{Closing, Report, SessionReport};
 use crate::session::play;
 use crate::start::Start;
 use host_block::{Bytes, Op};
 use host_io::{Disk, DiskError, MemDisk};
 use host_model::{Step, Steps};
 use host_record::Finish;
+use host_report::{Closing, Report, SessionReport};
 use std::alloc::Global;
 
 /// A run that was played: its report, and the disk that it was played on.

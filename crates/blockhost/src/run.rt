@@ -1,22 +1,23 @@
 //! The top call.
-ghost use Rattle.std.specs.Prelude.{◌≡◌, ◌↔◌, ◌≢◌, map, None, IsTrue, IsSome, IfNone};
+ghost use Rattle.std.specs.Prelude.{◌≡◌, ◌↔◌, ◌≢◌, map, false, Some, None, IsTrue, IsSome, IfSome, IfNone};
 ghost use Rattle.host_io.specs.Causes.{Rose};
 ghost use Rattle.host_io.specs.Disks.{OnlyReads};
 ghost use Rattle.blockhost.specs.Refusals.{refusal_line, refused_status};
 ghost use Rattle.blockhost.specs.Statuses.{HasReport, ReadsOut, played_status};
+ghost use Rattle.host_report.specs.Text.{report_text};
 ghost use Rattle.blockhost.specs.Words.{IsDryRun};
 ghost use Rattle.blockhost.specs.Writes.{PutsText};
-ghost use Rattle.blockhost.specs.declared.report.Closing.TheVariants.{Fault as ClosingFault};
+ghost use Rattle.host_report.specs.declared.closing.Closing.TheVariants.{Fault as ClosingFault};
 ghost use Rattle.blockhost.specs.declared.status.RunStatus.TheVariants.{DiskFault, ScriptFault, SinkFault, NotBuilt};
 
 use crate::outcome::Outcome;
 use crate::played::PlayedRun;
 use crate::refusal::Refusal;
-use crate::report::Closing;
 use crate::start::Start;
 use crate::status::RunStatus;
 use crate::text::{put, write_report};
 use host_io::{Disk, Gate, Sink, Source};
+use host_report::Closing;
 use std::alloc::Global;
 
 /// Runs the words after the program's name: on a copy of the image in memory it plays the script, and puts the text of
@@ -42,9 +43,10 @@ pub fn run<S: Source, D: Disk + Send, K: Sink, G: Gate + Sync>(
     // The disk handed in was only read.
     ensures only_reads { OnlyReads (D.counts disk) (D.counts result.disk) (D.never_fails disk) (D.never_fails result.disk) }
 
-    // Which statuses have a report, and what a run without one puts.
+    // Which statuses have a report, and what is put with it and without.
     ensures report { HasReport result.status result.report }
     ensures dry { IsSome result.dry ↔ IsSome result.report }
+    ensures text { IfSome result.report (λ report. PutsText (K.tells out.old) (K.appended out.old) (K.appended out.new) (K.faults out.old) (K.faults out.new) (report_text report false)) }
     ensures line { IfNone result.report (PutsText (K.tells out.old) (K.appended out.old) (K.appended out.new) (K.faults out.old) (K.faults out.new) (refusal_line result.status)) }
 {
     let mut disk = disk;
@@ -78,7 +80,8 @@ fn report<D, K: Sink>(run: PlayedRun, disk: D, out: &mut K) -> Outcome<D>
     ensures sink_fault { result.status ≡ SinkFault → Rose (K.faults out.old) (K.faults out.new) }
     ensures disk { result.disk ≡ disk }
     ensures dry { IsSome result.dry }
-    ensures report { IsSome result.report }
+    ensures report { result.report ≡ Some run.report }
+    ensures text { PutsText (K.tells out.old) (K.appended out.old) (K.appended out.new) (K.faults out.old) (K.faults out.new) (report_text run.report false) }
 {
     let was_written = write_report(&run.report, out).is_ok();
     Outcome {

@@ -5,9 +5,7 @@ ghost use Rattle.blockhost.specs.Room.{IsRoomFor};
 ghost use Rattle.blockhost.specs.Script.{IsSmall};
 
 use crate::dry::DryCopy;
-use crate::part::served_range;
 use crate::refusal::Refusal;
-use crate::report::SessionReports;
 use crate::script::{ShortScript, read_script};
 use crate::session::Room;
 use crate::words::dry_run_image;
@@ -15,6 +13,8 @@ use host_block::{BlockSize, Range};
 use host_gpt::{TableError, Which, read_table};
 use host_io::{Disk, Source};
 use host_model::MemEntries;
+use host_part::serve;
+use host_report::SessionReports;
 use std::alloc::Global;
 
 /// All that a session needs, taken before it begins.
@@ -110,8 +110,9 @@ fn find_partition(alloc: Global, dry: &mut DryCopy, part: u32) -> Result<(Which,
         Err(TableError::NoTable | TableError::TooLarge) => return Err(Refusal::NotBuilt),
         Err(TableError::Disk) => unreachable!("a copy in memory never fails"),
     };
-    match (table.which, served_range(&table, dry.blocks, part)) {
-        (Which::Primary, Some(range)) => Ok((Which::Primary, range)),
+    let parts = serve(alloc, &table, dry.blocks)?;
+    match (table.which, parts.range(part)) {
+        (Which::Primary, Ok(range)) => Ok((Which::Primary, range)),
         _ => Err(Refusal::NotBuilt),
     }
 }

@@ -1,17 +1,45 @@
 //! The lines of a log.
-ghost use Rattle.std.specs.Prelude.{◌≡◌};
+ghost use Rattle.std.specs.Prelude.{◌≡◌, [], flat_map};
 ghost use Rattle.host_io.specs.Causes.{HasCause};
+ghost use Rattle.host_model.specs.Lists.{below};
+ghost use Rattle.host_model.specs.declared.event.Event.TheVariants.{Attached, NotAttached, Filled, Sent, Received, Shown};
+ghost use Rattle.host_record.specs.Response.{response_fields};
+ghost use Rattle.host_report.specs.LogText.{block_of, cause_word, event_line, event_text, shown_line, shown_lines};
+ghost use Rattle.blockhost.specs.Printed.{word_text};
+ghost use Rattle.blockhost.specs.Writes.{Writes};
 
 use super::put::put_line;
 use super::word::{Word, yes_or_no};
+use byteorder::{ByteOrder, LittleEndian};
 use host_block::BlockSize;
 use host_io::{Sink, SinkFailed};
 use host_model::{AttachError, Event};
 use host_record::Response;
 
-/// Puts the lines of an event, whose blocks have this size.
-pub fn write_event<K: Sink>(event: &Event, size: BlockSize, out: &mut K) -> Result<(), SinkFailed>
+/// Puts the lines of these events, whose blocks have this size.
+pub fn write_log<K: Sink>(events: &[Event], size: BlockSize, out: &mut K) -> Result<(), SinkFailed>
     ensures tells { K.tells out.new ≡ K.tells out.old }
+    ensures text { Writes (K.tells out.old) (K.appended out.old) (K.appended out.new) (flat_map (event_text size) events.now) result }
+    ensures cause { HasCause (K.faults out.old) (K.faults out.new) result }
+{
+    for event in events {
+        write_event(event, size, out)?;
+    }
+    Ok(())
+}
+
+fn write_event<K: Sink>(event: &Event, size: BlockSize, out: &mut K) -> Result<(), SinkFailed>
+    ensures tells { K.tells out.new ≡ K.tells out.old }
+    ensures text { Writes (K.tells out.old) (K.appended out.old) (K.appended out.new) (event_text size event.now) result }
+    ensures cause { HasCause (K.faults out.old) (K.faults out.new) result }
+{
+    write_event_line(event, out)?;
+    write_shown_lines(event, size, out)
+}
+
+fn write_event_line<K: Sink>(event: &Event, out: &mut K) -> Result<(), SinkFailed>
+    ensures tells { K.tells out.new ≡ K.tells out.old }
+    ensures text { Writes (K.tells out.old) (K.appended out.old) (K.appended out.new) (event_line event.now) result }
     ensures cause { HasCause (K.faults out.old) (K.faults out.new) result }
 {
     match event {
@@ -31,21 +59,34 @@ pub fn write_event<K: Sink>(event: &Event, size: BlockSize, out: &mut K) -> Resu
             block,
             count,
             done,
-            bytes,
-        } => {
-            write_shown(*id, *block, *count, *done, out)?;
-            if *done {
-                write_blocks(*block, *count, bytes.as_slice(), size, out)?;
-            }
-            Ok(())
-        }
+            bytes: _,
+        } => write_shown(*id, *block, *count, *done, out),
         Event::Drained => put_line(out, b"  ", &[Word::Text(b"drained")]),
         Event::Aborted => put_line(out, b"  ", &[Word::Text(b"aborted")]),
     }
 }
 
+// The lines of the blocks that an event showed.
+fn write_shown_lines<K: Sink>(event: &Event, size: BlockSize, out: &mut K) -> Result<(), SinkFailed>
+    ensures tells { K.tells out.new ≡ K.tells out.old }
+    ensures text { Writes (K.tells out.old) (K.appended out.old) (K.appended out.new) (shown_lines size event.now) result }
+    ensures cause { HasCause (K.faults out.old) (K.faults out.new) result }
+{
+    match event {
+        Event::Shown {
+            id: _,
+            block,
+            count,
+            done: true,
+            bytes,
+        } => write_blocks(*block, *count, bytes.as_slice(), size, out),
+        _ => Ok(()),
+    }
+}
+
 fn write_attached<K: Sink>(pages: u32, id: u16, out: &mut K) -> Result<(), SinkFailed>
     ensures tells { K.tells out.new ≡ K.tells out.old }
+    ensures text { Writes (K.tells out.old) (K.appended out.old) (K.appended out.new) (event_line (Attached pages id)) result }
     ensures cause { HasCause (K.faults out.old) (K.faults out.new) result }
 {
     put_line(
@@ -66,6 +107,7 @@ fn write_not_attached<K: Sink>(
     out: &mut K,
 ) -> Result<(), SinkFailed>
     ensures tells { K.tells out.new ≡ K.tells out.old }
+    ensures text { Writes (K.tells out.old) (K.appended out.old) (K.appended out.new) (event_line (NotAttached pages cause)) result }
     ensures cause { HasCause (K.faults out.old) (K.faults out.new) result }
 {
     put_line(
@@ -79,7 +121,9 @@ fn write_not_attached<K: Sink>(
     )
 }
 
-fn cause_word<'a>(cause: AttachError) -> Word<'a> {
+fn cause_word<'a>(cause: AttachError) -> Word<'a>
+    ensures { word_text result ≡ cause_word cause }
+{
     match cause {
         AttachError::NoFrames => Word::Text(b"no-frames"),
         AttachError::NoIds => Word::Text(b"no-ids"),
@@ -97,6 +141,7 @@ fn write_filled<K: Sink>(
     out: &mut K,
 ) -> Result<(), SinkFailed>
     ensures tells { K.tells out.new ≡ K.tells out.old }
+    ensures text { Writes (K.tells out.old) (K.appended out.old) (K.appended out.new) (event_line (Filled id block count byte done)) result }
     ensures cause { HasCause (K.faults out.old) (K.faults out.new) result }
 {
     put_line(
@@ -115,6 +160,7 @@ fn write_filled<K: Sink>(
 
 fn write_sent<K: Sink>(index: u32, bytes: &[u8; 32], out: &mut K) -> Result<(), SinkFailed>
     ensures tells { K.tells out.new ≡ K.tells out.old }
+    ensures text { Writes (K.tells out.old) (K.appended out.old) (K.appended out.new) (event_line (Sent index bytes.now)) result }
     ensures cause { HasCause (K.faults out.old) (K.faults out.new) result }
 {
     put_line(
@@ -128,14 +174,25 @@ fn write_sent<K: Sink>(index: u32, bytes: &[u8; 32], out: &mut K) -> Result<(), 
     )
 }
 
+// The fields of an answer.
+#[tactic(auto, unfolding(host_record::specs::Response::response_fields))]
+fn answer_of(bytes: &[u8; 32]) -> Response
+    ensures { result ≡ response_fields bytes.now }
+{
+    Response {
+        status: LittleEndian::read_i32(bytes),
+        reqid: LittleEndian::read_u32(&bytes[4..]),
+        group: LittleEndian::read_u16(&bytes[8..]),
+        count: LittleEndian::read_u32(&bytes[12..]),
+    }
+}
+
 fn write_received<K: Sink>(bytes: &[u8; 32], out: &mut K) -> Result<(), SinkFailed>
     ensures tells { K.tells out.new ≡ K.tells out.old }
+    ensures text { Writes (K.tells out.old) (K.appended out.old) (K.appended out.new) (event_line (Received bytes.now)) result }
     ensures cause { HasCause (K.faults out.old) (K.faults out.new) result }
 {
-    let answer = match Response::from_bytes(bytes) {
-        Some(answer) => answer,
-        None => return Ok(()),
-    };
+    let answer = answer_of(bytes);
     put_line(
         out,
         b"  ",
@@ -160,6 +217,7 @@ fn write_shown<K: Sink>(
     out: &mut K,
 ) -> Result<(), SinkFailed>
     ensures tells { K.tells out.new ≡ K.tells out.old }
+    ensures text { Writes (K.tells out.old) (K.appended out.old) (K.appended out.new) (event_line (Shown id block count done [])) result }
     ensures cause { HasCause (K.faults out.old) (K.faults out.new) result }
 {
     put_line(
@@ -184,24 +242,38 @@ fn write_blocks<K: Sink>(
     out: &mut K,
 ) -> Result<(), SinkFailed>
     ensures tells { K.tells out.new ≡ K.tells out.old }
+    ensures text { Writes (K.tells out.old) (K.appended out.old) (K.appended out.new) (flat_map (shown_line size block bytes.now) (below count)) result }
     ensures cause { HasCause (K.faults out.old) (K.faults out.new) result }
 {
-    let size = size.bytes() as usize;
-    let mut rest = bytes;
     for k in 0..count {
-        let (front, back) = match rest.split_at_checked(size) {
-            Some(parts) => parts,
-            None => (rest, rest),
-        };
-        put_line(
-            out,
-            b"    ",
-            &[
-                Word::Number(u64::from(block) + u64::from(k)),
-                Word::Block(front),
-            ],
-        )?;
-        rest = back;
+        write_block(block, k, bytes, size, out)?;
     }
     Ok(())
+}
+
+// The bytes of block k.
+fn block_of(bytes: &[u8], size: BlockSize, k: u32) -> &[u8]
+    ensures { result.now ≡ block_of size bytes.now k }
+{
+    let size = size.bytes() as usize;
+    let start = (k as usize * size).min(bytes.len());
+    let end = (start + size).min(bytes.len());
+    &bytes[start..end]
+}
+
+// The line of the k-th of these blocks, the first of which is `block`.
+fn write_block<K: Sink>(
+    block: u32,
+    k: u32,
+    bytes: &[u8],
+    size: BlockSize,
+    out: &mut K,
+) -> Result<(), SinkFailed>
+    ensures tells { K.tells out.new ≡ K.tells out.old }
+    ensures text { Writes (K.tells out.old) (K.appended out.old) (K.appended out.new) (shown_line size block bytes.now k) result }
+    ensures cause { HasCause (K.faults out.old) (K.faults out.new) result }
+{
+    let number = u64::from(block) + u64::from(k);
+    let block = Word::Block(block_of(bytes, size, k));
+    put_line(out, b"    ", &[Word::Number(number), block])
 }
