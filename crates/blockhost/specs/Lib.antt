@@ -1,5 +1,4 @@
 pub mod Buffer
-pub mod Printed
 pub mod Refusals
 pub mod Room
 pub mod Script

@@ -1,16 +1,11 @@
 -- What putting a text into a sink gives.
-use Rattle.std.specs.Prelude.{◌≡◌, ℕ, Bool, IsTrue, List, ◌++◌, Result, OnOk, OnErr}
+use Rattle.std.specs.Prelude.{◌≡◌, ℕ, Bool, IsTrue, List, ◌++◌}
 use Rattle.host_block.specs.Lists.{IsPrefix}
 use Rattle.host_io.specs.Causes.{Rose}
 
 -- a front of the text was appended
 abbrev pub AppendsFront : List ℕ → List ℕ → List ℕ → Type 0
 AppendsFront old new text = (front : List ℕ) × IsPrefix front text × (new ≡ old ++ front)
-
--- where the sink tells, the text was appended, and at an error a front of it
-pub record Writes {T E : Type 0} (tells : Bool) (old new text : List ℕ) (result : Result T E) : Type 0 where
-  pub ok : IsTrue tells → OnOk result (new ≡ old ++ text)
-  pub err : IsTrue tells → OnErr result (AppendsFront old new text)
 
 -- where the sink tells, a front of the text was appended, and the whole where its count of faults didn't rise
 pub record PutsText (tells : Bool) (old new : List ℕ) (faults new_faults : ℕ) (text : List ℕ) : Type 0 where

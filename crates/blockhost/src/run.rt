@@ -12,12 +12,12 @@ ghost use Rattle.blockhost.specs.declared.status.RunStatus.TheVariants.{DiskFaul
 
 use crate::outcome::Outcome;
 use crate::played::PlayedRun;
+use crate::put::put;
 use crate::refusal::Refusal;
 use crate::start::Start;
 use crate::status::RunStatus;
-use crate::text::{put, write_report};
 use host_io::{Disk, Gate, Sink, Source};
-use host_report::Closing;
+use host_report::{Closing, write_report};
 use std::alloc::Global;
 
 /// Runs the words after the program's name: on a copy of the image in memory it plays the script, and puts the text of
@@ -83,7 +83,7 @@ fn report<D, K: Sink>(run: PlayedRun, disk: D, out: &mut K) -> Outcome<D>
     ensures report { result.report ≡ Some run.report }
     ensures text { PutsText (K.tells out.old) (K.appended out.old) (K.appended out.new) (K.faults out.old) (K.faults out.new) (report_text run.report false) }
 {
-    let was_written = write_report(&run.report, out).is_ok();
+    let was_written = write_report(&run.report, false, out).is_ok();
     Outcome {
         status: status_of(run.report.closing, was_written),
         disk,

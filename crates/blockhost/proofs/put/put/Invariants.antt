@@ -1,6 +1,6 @@
 use Rattle.std.proofs.Common.{◌≡◌, ◌≤◌, ◌-◌, ◌++◌, length, take}
 use Rattle.std.specs.Prelude.{IsTrue}
-use Rattle.blockhost.proofs.text.put.put.Given as goal
+use Rattle.blockhost.proofs.put.put.Given as goal
 
 abbrev pub invariant-loop-count : goal.invariant-loop-count
 invariant-loop-count g l = record {

@@ -3,7 +3,7 @@ use Rattle.std.proofs.lemmas.Grind.{common_steps}
 use Rattle.std.proofs.lemmas.List.{take-append-drop}
 use Rattle.std.proofs.lemmas.Result.{IfErr-at_err, err_from_is_err_and}
 use Rattle.blockhost.proofs.Pieces.{put_more}
-use Rattle.blockhost.proofs.text.put.put.Goals as goal
+use Rattle.blockhost.proofs.put.put.Goals as goal
 
 pub returns-in_err-count-clause-text : goal.returns-in_err-count-clause-text
 returns-in_err-count-clause-text g c =
