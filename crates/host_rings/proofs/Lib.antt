@@ -1,0 +1,5 @@
+pub mod Lists
+pub mod RequestMoves
+pub mod AnswerMoves
+pub mod Counts
+mod Examples

@@ -1,0 +1,13 @@
+pub mod Places
+pub mod RequestViews
+pub mod RequestRule
+pub mod RequestEnds
+pub mod SenderFields
+pub mod TakerFields
+pub mod NoteFields
+pub mod Slips
+pub mod AnswerViews
+pub mod AnswerRule
+pub mod AnswerEnds
+pub mod SlipSenderFields
+pub mod SlipTakerFields
