@@ -37,7 +37,7 @@ made old new n left b e d is = d ∙ ((λ i. (view_after_making (e i).0, (e i).1
 
 module _ {S : Type 0} where
   pub gather_begins : (v : View) (m : Me S View) → m.0 ≡ v → IsIdle m → HasGathered v [] m
-  gather_begins v m same is = (λ i. (same i, is.3 i)) ∙ (λ i. (record { share = (let z : m.0.share ≡ 0 + 1 = (let e = is.0 in omega arith) in ap (λ (u : View). u.share) (sym same) ∙ z) i; page_size = v.page_size; granted = (let z : v.granted ≡ 0 + v.granted = omega arith in z) i; given_back = (let z : v.given_back ≡ 0 + v.given_back = omega arith in z) i; claims = v.claims; frames_out = (ap (λ (u : View). u.frames_out) (sym same) ∙ is.1) i; slots_held = (ap (λ (u : View). u.slots_held) (sym same) ∙ is.2) i }, []))
+  gather_begins v m same is = (λ i. (same i, is.4 i)) ∙ (λ i. (record { share = (let z : m.0.share ≡ 0 + 1 = (let e = is.0 in omega arith) in ap (λ (u : View). u.share) (sym same) ∙ z) i; page_size = v.page_size; granted = (let z : v.granted ≡ 0 + v.granted = omega arith in z) i; given_back = (let z : v.given_back ≡ 0 + v.given_back = omega arith in z) i; claims = v.claims; to_fetch = (ap (λ (u : View). u.to_fetch) (sym same) ∙ is.1) i; frames_out = (ap (λ (u : View). u.frames_out) (sym same) ∙ is.2) i; slots_held = (ap (λ (u : View). u.slots_held) (sym same) ∙ is.3) i }, []))
 
   pub gather_more : (v : View) (m m' : Me S View) (qs : List PoolSeat) (q : PoolSeat) → HasGathered v qs m → m' ≡ (gathered_view m.0 q.seat.me.0, m.1) → HasGathered v (q ∷ qs) m'
   gather_more v m m' qs q h e = let w : View = q.seat.me.0 in e ∙ ((λ i. (gathered_view (h i).0 w, (h i).1)) ∙ (λ i. (
@@ -47,8 +47,9 @@ module _ {S : Type 0} where
       granted = (let z : total granted qs + v.granted + w.granted ≡ w.granted + total granted qs + v.granted = omega arith in z) i;
       given_back = (let z : total given_back qs + v.given_back + w.given_back ≡ w.given_back + total given_back qs + v.given_back = omega arith in z) i;
       claims = sym (append_assoc w.claims (all_claims qs) v.claims) i;
-      frames_out = ap (λ l. l ++ []) q.idle.1 i;
-      slots_held = ap (λ l. l ++ []) q.idle.2 i;
+      to_fetch = ap (λ l. l ++ []) q.idle.1 i;
+      frames_out = ap (λ l. l ++ []) q.idle.2 i;
+      slots_held = ap (λ l. l ++ []) q.idle.3 i;
     },
     [],
   )))
@@ -78,7 +79,7 @@ pub closing : (k : Opening) (qs all : List PoolSeat) (q : PoolSeat) (id : ℕ) (
 closing k qs all q id m' ws xs is count pos has len f = let v : View = m'.0 in
     let long : length all ≡ length qs + 1 = ap length is ∙ (let l = length-append qs (q ∷ []) in omega arith) in
     let parts : v.share ≡ length qs + 1 = ap (λ z. z.0.share) has in
-    let e = ends IsBlankPage k id v ws xs (omega arith) pos (ap (λ z. z.0.slots_held) has) len f in
+    let e = ends IsBlankPage k id v ws xs (omega arith) pos (ap (λ z. z.0.slots_held) has) (ap (λ z. z.0.to_fetch) has) len f in
     let gots : v.granted ≡ total granted qs + granted q = ap (λ z. z.0.granted) has in let backs : v.given_back ≡ total given_back qs + given_back q = ap (λ z. z.0.given_back) has in let cs : v.claims ≡ all_claims qs ++ claims q = ap (λ z. z.0.claims) has in
     let g : total granted all ≡ total granted qs + (granted q + 0) = ap (total granted) is ∙ total_append granted qs (q ∷ []) in
     let b : total given_back all ≡ total given_back qs + (given_back q + 0) = ap (total given_back) is ∙ total_append given_back qs (q ∷ []) in

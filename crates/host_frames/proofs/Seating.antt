@@ -10,13 +10,15 @@ use Rattle.atomic_table.proofs.Lists.{at_set, set_else, at_snoc, at_map}
 use Rattle.host_frames.specs.declared.rule.Opening.{Opening}
 use Rattle.host_frames.specs.declared.view.View.{View}
 use Rattle.host_frames.specs.declared.view.Claim.{Claim}
-use Rattle.host_frames.specs.Sums.{total, count, sign, bit, claim_bit}
+use Rattle.host_frames.specs.Sums.{total, count, claim_bit}
 use Rattle.host_frames.specs.Claims.{won_by, taken_by, asked_by, AreFair, SomeIsRefused}
-use Rattle.host_frames.specs.Views.{times_out, times_held, named_count, share_of, granted_of, given_back_of, times_won, times_taken, first_view, view_after_making, new_seat_view, packed_view, emptied_view, unpacked_view, gathered_view, spent_view, idle_view, out_view}
+use Rattle.host_frames.specs.Views.{times_to_fetch, times_out, times_held, named_count, share_of, granted_of, given_back_of, times_won, times_taken, first_view, view_after_making, new_seat_view, packed_view, emptied_view, unpacked_view, gathered_view, spent_view, idle_view, out_view}
 use Rattle.host_frames.specs.Rule.{OnePlace}
 use Rattle.host_frames.specs.Homes.{pages_at_home}
 use Rattle.host_frames.proofs.Totals.{upto, total_set, total_snoc, total_append, total_at, total_two, total_only, count_append, upto_plus, upto_le, upto_same, upto_ones, upto_count, upto_count_le, upto_total}
-use Rattle.host_frames.proofs.Bits.{none_and, sign_le}
+use Rattle.std.specs.Int.{bit_at}
+use Rattle.std.proofs.lemmas.Nat.Bits.{bit_at-zero}
+use Rattle.host_frames.proofs.Bits.{claim_bit_le}
 use Rattle.host_frames.proofs.Stepping as m
 
 abbrev is_here : {P : Type 0} → Option P → ℕ
@@ -49,7 +51,7 @@ no_word (suc n) zero = refl
 no_word (suc n) (suc i) = no_word n i
 
 no_bit : (n f : ℕ) → claim_bit (replicate n 0) f ≡ 0
-no_bit n f = ap (λ z. bit z (f % 64)) (no_word n (f / 64)) ∙ ap sign (none_and (2 ^ (f % 64)))
+no_bit n f = ap (λ z. bit_at z (f % 64)) (no_word n (f / 64)) ∙ bit_at-zero (f % 64)
 
 length_replicate : {A : Type 0} (n : ℕ) (a : A) → length (replicate n a) ≡ n
 length_replicate zero a = refl
@@ -58,15 +60,15 @@ length_replicate (suc n) a = let more = length_replicate n a in omega arith
 -- what all claims together have won
 fair_total : (cs : List Claim) → AreFair cs → total (λ c. length c.won) cs ≤ asked_by cs
 fair_total [] h = omega arith
-fair_total (c ∷ cs) h = let more = fair_total cs h.1 in let here = h.0.0 in omega arith
+fair_total (c ∷ cs) h = let more = fair_total cs h.1 in let here = h.0 in omega arith
 
 refused_total : (frames : ℕ) (cs : List Claim) → AreFair cs → SomeIsRefused frames cs → total (λ c. length c.won) cs < asked_by cs
 refused_total frames [] h p = absurd p
-refused_total frames (c ∷ cs) h p = ⊎_elim (λ t. let more = fair_total cs h.1 in let here = t.1 in omega arith) (λ t. let more = refused_total frames cs h.1 t in let here = h.0.0 in omega arith) p
+refused_total frames (c ∷ cs) h p = ⊎_elim (λ t. let more = fair_total cs h.1 in let here = t.1 in omega arith) (λ t. let more = refused_total frames cs h.1 t in let here = h.0 in omega arith) p
 
 refused_covers : (frames : ℕ) (cs : List Claim) (f : ℕ) → f < frames → AreFair cs → SomeIsRefused frames cs → 1 ≤ won_by f cs + taken_by f cs
 refused_covers frames [] f lt h p = absurd p
-refused_covers frames (c ∷ cs) f lt h p = ⊎_elim (λ t. let e = t.0 in let here = h.0.1 f (omega arith) in omega arith) (λ t. let more = refused_covers frames cs f lt h.1 t in omega arith) p
+refused_covers frames (c ∷ cs) f lt h p = ⊎_elim (λ t. let here = t.0 f lt in omega arith) (λ t. let more = refused_covers frames cs f lt h.1 t in omega arith) p
 
 -- the first of a sum
 upto_first : (n : ℕ) (f : ℕ → ℕ) → upto (suc n) f ≡ f 0 + upto n (λ i. f (suc i))
@@ -101,18 +103,18 @@ module _ {P : Type 0} (IsBlank : ℕ → P → Type 0) (k : Opening) where
     granted_or_back = omega arith;
     taken_is_won = λ f h. absurd (let none = no_bit n f in omega arith);
     shares = (let e : k.seats + 0 ≡ k.seats = omega arith in e);
-    each = λ j u e. ⊎_elim (λ t. absurd (some-ne-none u (sym t))) (λ t. subst Known t (tt, (λ z. (refl, refl, refl, refl)), λ _. refl)) (at_snoc [] v u j e);
+    each = λ j u e. ⊎_elim (λ t. absurd (some-ne-none u (sym t))) (λ t. subst Known t (tt, (λ z. (refl, refl, refl, refl, refl)), λ _. refl)) (at_snoc [] v u j e);
   }
 
   -- views change, and no sum does
-  resummed : (s : St) (r : K s) (vs : List View) → ((f : ℕ) → total (times_out f) vs ≡ total (times_out f) s.views) → ((f : ℕ) → total (times_held f) vs ≡ total (times_held f) s.views) → total named_count vs ≡ total named_count s.views → total given_back_of vs ≡ total given_back_of s.views → total granted_of vs ≡ total granted_of s.views
+  resummed : (s : St) (r : K s) (vs : List View) → ((f : ℕ) → total (times_to_fetch f) vs ≡ total (times_to_fetch f) s.views) → ((f : ℕ) → total (times_out f) vs ≡ total (times_out f) s.views) → ((f : ℕ) → total (times_held f) vs ≡ total (times_held f) s.views) → total named_count vs ≡ total named_count s.views → total given_back_of vs ≡ total given_back_of s.views → total granted_of vs ≡ total granted_of s.views
       → ((f : ℕ) → total (times_won f) vs ≡ total (times_won f) s.views) → ((f : ℕ) → total (times_taken f) vs ≡ total (times_taken f) s.views) → total share_of vs ≡ total share_of s.views → ((j : ℕ) (v : View) → get_elem? vs j ≡ some v → Known v)
       → K record { words = s.words; homes = s.homes; views = vs }
-  resummed s r vs b h z a g w t p each = record {
+  resummed s r vs i b h z a g w t p each = record {
     words_suffice = r.words_suffice;
-    one_place = λ f. (let x = b f in let y = h f in let o = r.one_place f in omega arith);
+    one_place = λ f. (let e = i f in let x = b f in let y = h f in let o = r.one_place f in omega arith);
     none_beyond = r.none_beyond;
-    page_at_home = r.page_at_home;
+    page_at_home = λ f lt le. let e = i f in r.page_at_home f lt (omega arith);
     slot_empty = λ f pos. let x = b f in r.slot_empty f (omega arith);
     granted_or_back = (let o = r.granted_or_back in omega arith);
     taken_is_won = λ f pos. let x = w f in let y = t f in let o = r.taken_is_won f (omega arith) in omega arith;
@@ -121,60 +123,65 @@ module _ {P : Type 0} (IsBlank : ℕ → P → Type 0) (k : Opening) where
   }
 
   -- one view is cut in two
-  cut : (s : St) (r : K s) (id : ℕ) (v left right : View) → get_elem? s.views id ≡ some v → ((f : ℕ) → times_out f left + times_out f right ≡ times_out f v) → ((f : ℕ) → times_held f left + times_held f right ≡ times_held f v) → named_count left + named_count right ≡ named_count v → given_back_of left + given_back_of right ≡ given_back_of v → granted_of left + granted_of right ≡ granted_of v
+  cut : (s : St) (r : K s) (id : ℕ) (v left right : View) → get_elem? s.views id ≡ some v → ((f : ℕ) → times_to_fetch f left + times_to_fetch f right ≡ times_to_fetch f v) → ((f : ℕ) → times_out f left + times_out f right ≡ times_out f v) → ((f : ℕ) → times_held f left + times_held f right ≡ times_held f v) → named_count left + named_count right ≡ named_count v → given_back_of left + given_back_of right ≡ given_back_of v → granted_of left + granted_of right ≡ granted_of v
       → ((f : ℕ) → times_won f left + times_won f right ≡ times_won f v) → ((f : ℕ) → times_taken f left + times_taken f right ≡ times_taken f v) → share_of left + share_of right ≡ share_of v → Known left → Known right
       → K record { words = s.words; homes = s.homes; views = set s.views id left ++ right ∷ [] }
-  cut s r id v left right at b h z a g w t p kl kr = resummed s r (set s.views id left ++ right ∷ []) (λ f. split_total (times_out f) s.views id v left right at (b f)) (λ f. split_total (times_held f) s.views id v left right at (h f))
+  cut s r id v left right at i b h z a g w t p kl kr = resummed s r (set s.views id left ++ right ∷ []) (λ f. split_total (times_to_fetch f) s.views id v left right at (i f)) (λ f. split_total (times_out f) s.views id v left right at (b f)) (λ f. split_total (times_held f) s.views id v left right at (h f))
       (split_total named_count s.views id v left right at z) (split_total given_back_of s.views id v left right at a) (split_total granted_of s.views id v left right at g) (λ f. split_total (times_won f) s.views id v left right at (w f)) (λ f. split_total (times_taken f) s.views id v left right at (t f))
       (split_total share_of s.views id v left right at p)
       (λ j u e. ⊎_elim (λ y. ⊎_elim (λ q. subst Known q.1 kl) (λ q. r.each j u q.1) (at_set s.views id j left u y)) (λ y. subst Known y kr) (at_snoc (set s.views id left) right u j e))
 
   -- two views become one
-  glued : (s : St) (r : K s) (id : ℕ) (v : View) (other : ℕ) (w b c : View) → get_elem? s.views id ≡ some v → get_elem? (set s.views id b) other ≡ some w → ((f : ℕ) → times_out f b + times_out f c ≡ times_out f v + times_out f w) → ((f : ℕ) → times_held f b + times_held f c ≡ times_held f v + times_held f w) → named_count b + named_count c ≡ named_count v + named_count w → given_back_of b + given_back_of c ≡ given_back_of v + given_back_of w → granted_of b + granted_of c ≡ granted_of v + granted_of w
+  glued : (s : St) (r : K s) (id : ℕ) (v : View) (other : ℕ) (w b c : View) → get_elem? s.views id ≡ some v → get_elem? (set s.views id b) other ≡ some w → ((f : ℕ) → times_to_fetch f b + times_to_fetch f c ≡ times_to_fetch f v + times_to_fetch f w) → ((f : ℕ) → times_out f b + times_out f c ≡ times_out f v + times_out f w) → ((f : ℕ) → times_held f b + times_held f c ≡ times_held f v + times_held f w) → named_count b + named_count c ≡ named_count v + named_count w → given_back_of b + given_back_of c ≡ given_back_of v + given_back_of w → granted_of b + granted_of c ≡ granted_of v + granted_of w
       → ((f : ℕ) → times_won f b + times_won f c ≡ times_won f v + times_won f w) → ((f : ℕ) → times_taken f b + times_taken f c ≡ times_taken f v + times_taken f w) → share_of b + share_of c ≡ share_of v + share_of w → Known b → Known c
       → K record { words = s.words; homes = s.homes; views = set (set s.views id b) other c }
-  glued s r id v other w b c at at' eb eh ez ea eg ew et ep kb kc = resummed s r (set (set s.views id b) other c) (λ f. join_total (times_out f) s.views id v other w b c at at' (eb f)) (λ f. join_total (times_held f) s.views id v other w b c at at' (eh f))
+  glued s r id v other w b c at at' ei eb eh ez ea eg ew et ep kb kc = resummed s r (set (set s.views id b) other c) (λ f. join_total (times_to_fetch f) s.views id v other w b c at at' (ei f)) (λ f. join_total (times_out f) s.views id v other w b c at at' (eb f)) (λ f. join_total (times_held f) s.views id v other w b c at at' (eh f))
       (join_total named_count s.views id v other w b c at at' ez) (join_total given_back_of s.views id v other w b c at at' ea) (join_total granted_of s.views id v other w b c at at' eg) (λ f. join_total (times_won f) s.views id v other w b c at at' (ew f)) (λ f. join_total (times_taken f) s.views id v other w b c at at' (et f))
       (join_total share_of s.views id v other w b c at at' ep)
       (λ j u e. ⊎_elim (λ y. subst Known y.1 kc) (λ y. ⊎_elim (λ q. subst Known q.1 kb) (λ q. r.each j u q.1) (at_set s.views id j b u y.1)) (at_set (set s.views id b) other j c u e))
 
   pub makes : (id n b : ℕ) → Splits K id (idle_view (n + 1) b) (view_after_making (idle_view (n + 1) b)) (new_seat_view (idle_view (n + 1) b))
   makes id n b s r at = let known = r.each id (idle_view (n + 1) b) at in let bytes : b ≡ k.page_size = known.2 (λ z. absurd (omega arith)) in
-      cut s r id (idle_view (n + 1) b) (view_after_making (idle_view (n + 1) b)) (new_seat_view (idle_view (n + 1) b)) at (λ f. omega arith) (λ f. omega arith) (omega arith) (omega arith) (omega arith) (λ f. omega arith) (λ f. omega arith) (omega arith)
-      (tt, (λ z. (refl, refl, refl, refl)), λ _. bytes) (tt, (λ z. (refl, refl, refl, refl)), λ _. bytes)
+      cut s r id (idle_view (n + 1) b) (view_after_making (idle_view (n + 1) b)) (new_seat_view (idle_view (n + 1) b)) at (λ f. omega arith) (λ f. omega arith) (λ f. omega arith) (omega arith) (omega arith) (omega arith) (λ f. omega arith) (λ f. omega arith) (omega arith)
+      (tt, (λ z. (refl, refl, refl, refl, refl)), λ _. bytes) (tt, (λ z. (refl, refl, refl, refl, refl)), λ _. bytes)
 
   pub packs : (id : ℕ) (v : View) → Splits K id v (emptied_view v) (packed_view v)
   packs id v s r at = let known = r.each id v at in
-      cut s r id v (emptied_view v) (packed_view v) at (λ f. omega arith) (λ f. omega arith) (omega arith) (omega arith) (omega arith) (λ f. omega arith) (λ f. omega arith) (omega arith)
-      known (tt, (λ z. (refl, refl, refl, refl)), λ ne. absurd (ne refl))
+      cut s r id v (emptied_view v) (packed_view v) at (λ f. omega arith) (λ f. omega arith) (λ f. omega arith) (omega arith) (omega arith) (omega arith) (λ f. omega arith) (λ f. omega arith) (omega arith)
+      known (tt, (λ z. (refl, refl, refl, refl, refl)), λ ne. absurd (ne refl))
 
   pub unpacks : (id : ℕ) (v : View) (other b : ℕ) (fs : List ℕ) → Joins K id v other (out_view b fs) (unpacked_view v (out_view b fs)) spent_view
   unpacks id v other b fs s r at ne at' = let known = r.each id v at in
-      glued s r id v other (out_view b fs) (unpacked_view v (out_view b fs)) spent_view at at' (λ f. let a = count_append f fs v.frames_out in omega arith) (λ f. omega arith) (let a = length-append fs v.frames_out in omega arith) (omega arith) (omega arith) (λ f. omega arith) (λ f. omega arith) (omega arith)
-      known (tt, (λ z. (refl, refl, refl, refl)), λ ne. absurd (ne refl))
+      glued s r id v other (out_view b fs) (unpacked_view v (out_view b fs)) spent_view at at' (λ f. omega arith) (λ f. let a = count_append f fs v.frames_out in omega arith) (λ f. omega arith) (let a = length-append fs v.frames_out in omega arith) (omega arith) (omega arith) (λ f. omega arith) (λ f. omega arith) (omega arith)
+      known (tt, (λ z. (refl, refl, refl, refl, refl)), λ ne. absurd (ne refl))
 
   pub gathers : (id : ℕ) (v : View) (other : ℕ) (w : View) → v.share ≢ 0 → Joins K id v other w (gathered_view v w) spent_view
   gathers id v other w pos s r at ne at' = let kv = r.each id v at in let b : View = gathered_view v w in let kw = r.each other w (sym (set_else s.views id other b ne) ∙ at') in
-      glued s r id v other w b spent_view at at' (λ f. let a = count_append f w.frames_out v.frames_out in omega arith) (λ f. let a = count_append f w.slots_held v.slots_held in omega arith) (let a = length-append w.frames_out v.frames_out in let c = length-append w.slots_held v.slots_held in omega arith)
+      glued s r id v other w b spent_view at at' (λ f. let a = count_append f w.to_fetch v.to_fetch in omega arith) (λ f. let a = count_append f w.frames_out v.frames_out in omega arith) (λ f. let a = count_append f w.slots_held v.slots_held in omega arith) (let d = length-append w.to_fetch v.to_fetch in let a = length-append w.frames_out v.frames_out in let c = length-append w.slots_held v.slots_held in omega arith)
       (omega arith) (omega arith) (λ f. let a = total_append (λ (c : Claim). count f c.won) w.claims v.claims in omega arith) (λ f. let a = total_append (λ (c : Claim). count f c.taken) w.claims v.claims in omega arith) (omega arith)
-      (fair_append w.claims v.claims kw.0 kv.0, (λ z. absurd (pos (omega arith))), λ _. kv.2 pos) (tt, (λ z. (refl, refl, refl, refl)), λ no. absurd (no refl))
+      (fair_append w.claims v.claims kw.0 kv.0, (λ z. absurd (pos (omega arith))), λ _. kv.2 pos) (tt, (λ z. (refl, refl, refl, refl, refl)), λ no. absurd (no refl))
 
   -- who has taken in all seats knows how many pages are at home
-  pub ends : (id : ℕ) (v : View) (ws : List ℕ) (xs : List (Option P)) → v.share ≡ k.seats → 1 ≤ k.seats → v.slots_held ≡ [] → length xs ≡ k.frames → Final (Seen K id v) ws xs
+  pub ends : (id : ℕ) (v : View) (ws : List ℕ) (xs : List (Option P)) → v.share ≡ k.seats → 1 ≤ k.seats → v.slots_held ≡ [] → v.to_fetch ≡ [] → length xs ≡ k.frames → Final (Seen K id v) ws xs
       → (pages_at_home xs + v.granted ≡ k.frames + v.given_back) × (SomeIsRefused k.frames v.claims → k.frames < asked_by v.claims)
-  ends id v ws xs all pos empty len f = let s : St = f.0 in let r = f.1.0 in let at = f.1.1 in let vs : List View = s.views in
-      let quiet : (j : ℕ) (u : View) → j ≢ id → get_elem? vs j ≡ some u → (u.granted ≡ 0) × (u.given_back ≡ 0) × (u.claims ≡ []) × (u.slots_held ≡ []) =
+  ends id v ws xs all pos empty nothing len f = let s : St = f.0 in let r = f.1.0 in let at = f.1.1 in let vs : List View = s.views in
+      let quiet : (j : ℕ) (u : View) → j ≢ id → get_elem? vs j ≡ some u → (u.granted ≡ 0) × (u.given_back ≡ 0) × (u.claims ≡ []) × (u.slots_held ≡ []) × (u.to_fetch ≡ []) =
       (λ j u ne e. (r.each j u e).1 (let two = total_two share_of vs id j v u (λ z. ne (sym z)) at e in let sum = r.shares in omega arith)) in
       let gots = total_only granted_of vs id v at (λ j u ne e. (quiet j u ne e).0) in let backs = total_only given_back_of vs id v at (λ j u ne e. (quiet j u ne e).1) in
       let no_held : (g : ℕ) → total (times_held g) vs ≡ 0 = λ g. total_only (times_held g) vs id v at (λ j u ne e. ap (count g) (quiet j u ne e).3) ∙ ap (count g) empty in
+      let no_fetch : (g : ℕ) → total (times_to_fetch g) vs ≡ 0 = λ g. total_only (times_to_fetch g) vs id v at (λ j u ne e. ap (count g) (quiet j u ne e).4) ∙ ap (count g) nothing in
       let won : (g : ℕ) → total (times_won g) vs ≡ won_by g v.claims = λ g. total_only (times_won g) vs id v at (λ j u ne e. ap (won_by g) (quiet j u ne e).2) in
       let each : (g : ℕ) → g < length xs → ((claim_bit s.words g ≡ 0) × ((p : P) × (get_elem? xs g ≡ some (Some p)))) ⊎ ((claim_bit s.words g ≡ 1) × (get_elem? xs g ≡ some None)) = (λ g lt. dite (ℕ_discrete (claim_bit s.words g) 0)
-      (λ free. let p = r.page_at_home g (omega arith) free in inl (free, (p.0, f.4 g (Some p.0) p.1)))
-      (λ taken. let h = no_held g in let o = r.one_place g in let le = sign_le (bit_and (get_or s.words (g / 64) 0) (2 ^ (g % 64))) in inr (omega arith, f.4 g None (r.slot_empty g (omega arith))))) in
+      (λ free. let p = r.page_at_home g (omega arith) (omega arith) in inl (free, (p.0, f.4 g (Some p.0) p.1)))
+      (λ taken. let h = no_held g in let i = no_fetch g in let o = r.one_place g in let le = claim_bit_le s.words g in inr (omega arith, f.4 g None (r.slot_empty g (omega arith))))) in
       let home = homes_count xs (claim_bit s.words) each in
-      let sizes : upto k.frames (claim_bit s.words) ≡ total named_count vs = (upto_same (claim_bit s.words) (λ g. total (λ u. times_out g u + times_held g u) vs) k.frames (λ g lt. let o = r.one_place g in let p = total_plus (times_out g) (times_held g) vs in omega arith)
-      ∙ (upto_total (λ g u. times_out g u + times_held g u) k.frames vs
-      ∙ total_same (λ u. upto k.frames (λ g. times_out g u + times_held g u)) named_count vs (λ j u e. upto_plus (λ g. times_out g u) (λ g. times_held g u) k.frames ∙ sum_two (upto_count k.frames u.frames_out (λ g le. let o = r.one_place g in let z = r.none_beyond g le in let b = total_at (times_out g) vs j u e in omega arith)) (upto_count k.frames u.slots_held (λ g le. let o = r.one_place g in let z = r.none_beyond g le in let b = total_at (times_held g) vs j u e in omega arith))))) in
+      let named : ℕ → View → ℕ = λ g u. times_to_fetch g u + times_out g u + times_held g u in
+      let few : (g : ℕ) → k.frames ≤ g → (total (times_to_fetch g) vs ≡ 0) × (total (times_out g) vs ≡ 0) × (total (times_held g) vs ≡ 0) = (λ g le. let o = r.one_place g in let z = r.none_beyond g le in (omega arith, omega arith, omega arith)) in
+      let sizes : upto k.frames (claim_bit s.words) ≡ total named_count vs = (upto_same (claim_bit s.words) (λ g. total (named g) vs) k.frames (λ g lt. let o = r.one_place g in let p = total_plus (λ u. times_to_fetch g u + times_out g u) (times_held g) vs in let q = total_plus (times_to_fetch g) (times_out g) vs in omega arith)
+      ∙ (upto_total named k.frames vs
+      ∙ total_same (λ u. upto k.frames (λ g. named g u)) named_count vs (λ j u e. upto_plus (λ g. times_to_fetch g u + times_out g u) (λ g. times_held g u) k.frames ∙ sum_two
+      (upto_plus (λ g. times_to_fetch g u) (λ g. times_out g u) k.frames ∙ sum_two (upto_count k.frames u.to_fetch (λ g le. let z = (few g le).0 in let b = total_at (times_to_fetch g) vs j u e in omega arith)) (upto_count k.frames u.frames_out (λ g le. let z = (few g le).1 in let b = total_at (times_out g) vs j u e in omega arith)))
+      (upto_count k.frames u.slots_held (λ g le. let z = (few g le).2 in let b = total_at (times_held g) vs j u e in omega arith))))) in
       let same : upto (length xs) (claim_bit s.words) ≡ upto k.frames (claim_bit s.words) = ap (λ n. upto n (claim_bit s.words)) len in let lent = r.granted_or_back in
       let fair = (r.each id v at).0 in (
         omega arith,

@@ -6,9 +6,9 @@ use mathlib.Core.Option.{none}
 use Rattle.atomic_table.specs.Table.{Me, step, Allows, rest}
 use Rattle.host_frames.specs.declared.rule.Opening.{Opening}
 use Rattle.host_frames.specs.declared.view.View.{View}
-use Rattle.host_frames.specs.Views.{next_of, first_of, others, winning_view, missing_view, settled_view, reached_view}
-use Rattle.host_frames.specs.Steps.{TriesFrame, LeavesSlot, TakesSlot, BringsHome, GivesUp}
-use Rattle.host_frames.specs.Moments.{IsTrying, IsNextHome, refusing_view, returning_view}
+use Rattle.host_frames.specs.Views.{first_of, others, fetching_view, settled_view, reached_view}
+use Rattle.host_frames.specs.Steps.{FetchesPage, LeavesSlot, TakesSlot, BringsHome, GivesUp}
+use Rattle.host_frames.specs.Moments.{IsNextToFetch, IsNextHome, refusing_view, returning_view}
 use Rattle.host_frames.proofs.Bits.{but}
 use Rattle.host_frames.proofs.Stepping as m
 
@@ -35,20 +35,19 @@ module _ {P : Type 0} (IsBlank : ℕ → P → Type 0) (k : Opening) where
   abbrev M : Type 0
   M = Me (Option P) View
 
-  pub tries : (n id : ℕ) (me : M) (frame i mask : ℕ) → IsTrying frame me → frame < k.frames → i ≡ frame / 64 → mask ≡ 2 ^ (frame % 64) → Allows K n id me i (λ x. bit_or x mask) (TriesFrame IsBlank (step n i mask 0 none) me)
-  tries n id me frame i mask is below word bit = let next : next_of me.0.claims ≡ frame = ap next_of is.3.2 ∙ is.3.3 in
-      subst (λ (z : ℕ × ℕ). Allows K n id me z.0 (λ x. bit_or x z.1) (TriesFrame IsBlank (step n z.0 z.1 0 none) me)) (λ j. ((ap (λ (z : ℕ). z / 64) next ∙ sym word) j, (ap (λ (z : ℕ). 2 ^ (z % 64)) next ∙ sym bit) j))
-      (m.tries_keeps IsBlank k n id me is.3.0 is.3.1 is.0 is.3.2 is.3.4 (omega arith))
+  pub fetching : (n id : ℕ) (me : M) (frame : ℕ) → IsNextToFetch frame me → Allows K n id me 0 (λ x. x) (FetchesPage IsBlank (step n 0 0 0 none) me)
+  fetching n id me frame is = m.fetches_keeps IsBlank k n id me is.0 (is.1 ∙ ap (λ z. z ∷ others me.0.to_fetch) (sym (ap first_of is.1)))
 
-  pub settling : (n id : ℕ) (me : M) (v : View) (frame : ℕ) (l : List (ℕ × Option P)) → me ≡ (winning_view v, (frame, None) ∷ l) → next_of v.claims ≡ frame → v.share ≡ 1 → n ≡ k.frames → Allows K n id me 0 (λ x. x) (LeavesSlot IsBlank (step n 0 0 0 none) me)
+  pub settling : (n id : ℕ) (me : M) (v : View) (frame : ℕ) (l : List (ℕ × Option P)) → me ≡ (fetching_view v, (frame, None) ∷ l) → first_of v.to_fetch ≡ frame → v.share ≡ 1 → n ≡ k.frames → Allows K n id me 0 (λ x. x) (LeavesSlot IsBlank (step n 0 0 0 none) me)
   settling n id me v frame l is next seat slots = let Q : M → Type 0 = λ z. Allows K n id z 0 (λ x. x) (LeavesSlot IsBlank (step n 0 0 0 none) z) in
-      subst Q (sym is) (m.leaves_keeps IsBlank k n id (winning_view v, (frame, None) ∷ l) l slots seat refl (ap (λ z. (z, None) ∷ l) (sym next)))
+      subst Q (sym is) (m.leaves_keeps IsBlank k n id (fetching_view v, (frame, None) ∷ l) l slots seat refl (ap (λ z. (z, None) ∷ l) (sym next)))
 
-  pub won_page : (o : Option P) (p : P) (me me1 me2 me3 : M) (slot frame : ℕ) → me1 ≡ (winning_view me.0, (slot, Some p) ∷ me.1) → me1.1 ≡ (frame, o) ∷ rest me1.1 → me2 ≡ (me1.0, (frame, None) ∷ rest me1.1) → me3 ≡ (settled_view me2.0, rest me2.1) → me.1 ≡ []
-      → IsBlank me.0.page_size p → MatchOption o (me3 ≡ (missing_view me.0, [])) (λ q. (me3 ≡ (settled_view (winning_view me.0), [])) × IsBlank me.0.page_size q)
-  won_page o p me me1 me2 me3 slot frame a b c d empty blank = let is : o ≡ Some p = same_value me1.1 (rest me1.1) me.1 frame slot o (Some p) b (ap (λ z. z.1) a) in
-      subst (λ z. MatchOption z (me3 ≡ (missing_view me.0, [])) (λ q. (me3 ≡ (settled_view (winning_view me.0), [])) × IsBlank me.0.page_size q)) (sym is)
-      (d ∙ ((λ i. (settled_view (c i).0, rest (c i).1)) ∙ ((λ i. (settled_view (a i).0, rest (a i).1)) ∙ (λ i. (settled_view (winning_view me.0), empty i)))), blank)
+  pub fetched_page : (o : Option P) (p : P) (me me1 me2 me3 : M) (slot frame : ℕ) → me1 ≡ (fetching_view me.0, (slot, Some p) ∷ me.1) → me1.1 ≡ (frame, o) ∷ rest me1.1 → me2 ≡ (me1.0, (frame, None) ∷ rest me1.1) → me3 ≡ (settled_view me2.0, rest me2.1) → me.1 ≡ []
+      → (o ≡ Some p) × (me3 ≡ (settled_view (fetching_view me.0), []))
+  fetched_page o p me me1 me2 me3 slot frame a b c d empty = (
+    same_value me1.1 (rest me1.1) me.1 frame slot o (Some p) b (ap (λ z. z.1) a),
+    d ∙ ((λ i. (settled_view (c i).0, rest (c i).1)) ∙ ((λ i. (settled_view (a i).0, rest (a i).1)) ∙ (λ i. (settled_view (fetching_view me.0), empty i)))),
+  )
 
   pub reaching : (n id : ℕ) (me : M) (frame : ℕ) → IsNextHome frame me → Allows K n id me 0 (λ x. x) (TakesSlot IsBlank (step n 0 0 0 none) me)
   reaching n id me frame is = m.takes_keeps IsBlank k n id me is.0 (is.1 ∙ ap (λ z. z ∷ others me.0.frames_out) (sym (ap first_of is.1)))

@@ -1,5 +1,5 @@
 -- Claims: what each asked for, won and found taken.
-use Rattle.std.specs.Prelude.{◌≡◌, ◌⊎◌, ℕ, ◌+◌, ◌<◌, ◌≤◌, List, [], ◌∷◌, length}
+use Rattle.std.specs.Prelude.{◌⊎◌, ℕ, ◌+◌, ◌<◌, ◌≤◌, List, [], ◌∷◌, length}
 use Rattle.host_frames.specs.declared.view.Claim.{Claim}
 use Rattle.host_frames.specs.Sums.{total, count}
 
@@ -15,13 +15,17 @@ taken_by f cs = total (λ c. count f c.taken) cs
 abbrev pub asked_by : List Claim → ℕ
 asked_by cs = total (λ c. c.asked) cs
 
--- the claim has got each frame below a number, or found it taken
+-- how often the claim has won a frame or found it taken
+abbrev pub times_met : ℕ → Claim → ℕ
+times_met f c = count f c.won + count f c.taken
+
+-- the claim has won each frame below a number, or found it taken
 abbrev pub Covers : ℕ → Claim → Type 0
-Covers n c = (f : ℕ) → f < n → 1 ≤ count f c.won + count f c.taken
+Covers n c = (f : ℕ) → f < n → 1 ≤ times_met f c
 
 -- it won no more than it asked for
 abbrev pub IsFair : Claim → Type 0
-IsFair c = (length c.won ≤ c.asked) × Covers c.passed c
+IsFair c = length c.won ≤ c.asked
 
 abbrev pub AreFair : List Claim → Type 0
 AreFair [] = Unit {0}
@@ -29,7 +33,7 @@ AreFair (c ∷ cs) = IsFair c × AreFair cs
 
 -- the claim went over all frames of the pool, and got too few
 abbrev pub IsRefused : ℕ → Claim → Type 0
-IsRefused frames c = (c.passed ≡ frames) × (length c.won < c.asked)
+IsRefused frames c = Covers frames c × (length c.won < c.asked)
 
 abbrev pub SomeIsRefused : ℕ → List Claim → Type 0
 SomeIsRefused frames [] = ⊥

@@ -7,7 +7,7 @@ use Rattle.host_frames.specs.declared.rule.Opening.{Opening}
 use Rattle.host_frames.specs.declared.view.View.{View}
 use Rattle.host_frames.specs.Sums.{total, claim_bit}
 use Rattle.host_frames.specs.Claims.{AreFair}
-use Rattle.host_frames.specs.Views.{times_out, times_held, named_count, share_of, granted_of, given_back_of, times_won, times_taken, IsQuiet}
+use Rattle.host_frames.specs.Views.{times_to_fetch, times_out, times_held, named_count, share_of, granted_of, given_back_of, times_won, times_taken, IsQuiet}
 use Rattle.atomic_table.specs.Table.{State}
 
 module _ {P : Type 0} (IsBlank : ℕ → P → Type 0) where
@@ -15,10 +15,10 @@ module _ {P : Type 0} (IsBlank : ℕ → P → Type 0) where
   pub record OnePlace (k : Opening) (s : State (Option P) View) : Type 0 where
     pub words_suffice : k.frames ≤ length s.words * 64
     -- a clear bit is named by no view, and a set one by just one view, once
-    pub one_place : (f : ℕ) → total (times_out f) s.views + total (times_held f) s.views ≡ claim_bit s.words f
+    pub one_place : (f : ℕ) → total (times_to_fetch f) s.views + total (times_out f) s.views + total (times_held f) s.views ≡ claim_bit s.words f
     pub none_beyond : (f : ℕ) → k.frames ≤ f → claim_bit s.words f ≡ 0
-    -- a frame whose bit is clear has its page at home
-    pub page_at_home : (f : ℕ) → f < k.frames → claim_bit s.words f ≡ 0 → (p : P) × (get_elem? s.homes f ≡ some (some (Some p))) × IsBlank k.page_size p
+    -- a frame has its page at home where its bit is clear, or it was won and not fetched yet
+    pub page_at_home : (f : ℕ) → f < k.frames → claim_bit s.words f ≤ total (times_to_fetch f) s.views → (p : P) × (get_elem? s.homes f ≡ some (some (Some p))) × IsBlank k.page_size p
     -- a frame whose page is out has an empty slot
     pub slot_empty : (f : ℕ) → 1 ≤ total (times_out f) s.views → get_elem? s.homes f ≡ some (some None)
     pub granted_or_back : total named_count s.views + total given_back_of s.views ≡ total granted_of s.views

@@ -77,4 +77,4 @@ all_claims (q ∷ qs) = claims q ++ all_claims qs
 
 -- a seat with the view v has taken in all these
 abbrev pub HasGathered : {S : Type 0} → View → List PoolSeat → Me S View → Type 0
-HasGathered v qs m = m ≡ (record { share = length qs + 1; page_size = v.page_size; granted = total granted qs + v.granted; given_back = total given_back qs + v.given_back; claims = all_claims qs ++ v.claims; frames_out = []; slots_held = [] }, [])
+HasGathered v qs m = m ≡ (record { share = length qs + 1; page_size = v.page_size; granted = total granted qs + v.granted; given_back = total given_back qs + v.given_back; claims = all_claims qs ++ v.claims; to_fetch = []; frames_out = []; slots_held = [] }, [])

@@ -1,7 +1,7 @@
 -- What each step of a seat tells. A step finds the number r, and m becomes m', a view with the slots that the seat holds.
-use Rattle.std.specs.Prelude.{◌≡◌, ◌≢◌, ℕ, ◌∷◌, Option, Some, None, bit_and}
+use Rattle.std.specs.Prelude.{◌≡◌, ℕ, ◌∷◌, Option, Some, None}
 use Rattle.host_frames.specs.declared.view.View.{View}
-use Rattle.host_frames.specs.Views.{asking_view, next_of, winning_view, missing_view, first_of, settled_view, reached_view, returned_view, yielded_view}
+use Rattle.host_frames.specs.Views.{asking_view, looking_view, winning_view, fetching_view, first_of, settled_view, reached_view, returned_view, yielded_view}
 use Rattle.atomic_table.specs.Table.{Me, Step, rest}
 
 module _ {P : Type 0} (IsBlank : ℕ → P → Type 0) where
@@ -12,9 +12,17 @@ module _ {P : Type 0} (IsBlank : ℕ → P → Type 0) where
   abbrev pub BeginsClaim : Step (Option P) → Seated → ℕ → Seated → Type 0
   BeginsClaim st m r m' = m' ≡ (asking_view st.first m.0, m.1)
 
-  -- the bit of the next frame was clear and the seat takes its slot, or it was set
-  abbrev pub TriesFrame : Step (Option P) → Seated → ℕ → Seated → Type 0
-  TriesFrame st m r m' = (bit_and r st.first ≡ 0 → (p : P) × (m' ≡ (winning_view m.0, (next_of m.0.claims, Some p) ∷ m.1)) × IsBlank m.0.page_size p) × (bit_and r st.first ≢ 0 → m' ≡ (missing_view m.0, m.1))
+  -- the frames whose bits are set were found taken
+  abbrev pub LooksAtWord : Step (Option P) → Seated → ℕ → Seated → Type 0
+  LooksAtWord st m r m' = m' ≡ (looking_view st.word r m.0, m.1)
+
+  -- of the bits that the operand sets, those that were clear are won, and the others were found taken
+  abbrev pub WinsFrames : Step (Option P) → Seated → ℕ → Seated → Type 0
+  WinsFrames st m r m' = m' ≡ (winning_view st.word st.first r m.0, m.1)
+
+  -- the slot of the first frame to fetch is taken, with its blank page
+  abbrev pub FetchesPage : Step (Option P) → Seated → ℕ → Seated → Type 0
+  FetchesPage st m r m' = (p : P) × (m' ≡ (fetching_view m.0, (first_of m.0.to_fetch, Some p) ∷ m.1)) × IsBlank m.0.page_size p
 
   -- the slot that was taken last goes home empty
   abbrev pub LeavesSlot : Step (Option P) → Seated → ℕ → Seated → Type 0

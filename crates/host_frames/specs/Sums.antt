@@ -1,5 +1,6 @@
 -- Sums, counts and claim bits.
-use Rattle.std.specs.Prelude.{◌==◌, ℕ, zero, suc, ◌+◌, ◌/◌, ◌%◌, ◌^◌, cond, List, [], ◌∷◌, get_or, bit_and}
+use Rattle.std.specs.Prelude.{◌==◌, ℕ, zero, suc, ◌+◌, ◌*◌, ◌/◌, ◌%◌, cond, List, [], ◌∷◌, get_or}
+use Rattle.std.specs.Int.{bit_at}
 
 -- the values of a function on a list, added up
 abbrev pub total : {A : Type 0} → (A → ℕ) → List A → ℕ
@@ -15,15 +16,20 @@ abbrev pub count : ℕ → List ℕ → ℕ
 count k [] = 0
 count k (x ∷ xs) = same k x + count k xs
 
--- 1 where the number isn't 0
-abbrev pub sign : ℕ → ℕ
-sign zero = 0
-sign (suc n) = 1
-
--- the bit j of n
-abbrev pub bit : ℕ → ℕ → ℕ
-bit n j = sign (bit_and n (2 ^ j))
-
 -- the claim bit of a frame: the bit j of word i is that of frame 64 i + j
 abbrev pub claim_bit : List ℕ → ℕ → ℕ
-claim_bit words f = bit (get_or words (f / 64) 0) (f % 64)
+claim_bit words f = bit_at (get_or words (f / 64) 0) (f % 64)
+
+-- x before xs, unless the bit is 0
+abbrev pub put_where : ℕ → ℕ → List ℕ → List ℕ
+put_where zero x xs = xs
+put_where (suc b) x xs = x ∷ xs
+
+-- the frames of word i whose bits in n are set, of k bits from the bit j on
+abbrev pub set_frames : ℕ → ℕ → ℕ → ℕ → List ℕ
+set_frames i n j zero = []
+set_frames i n j (suc k) = put_where (bit_at n j) (64 * i + j) (set_frames i n (j + 1) k)
+
+-- the frames of word i whose bits in n are set
+unfoldable pub frames_in : ℕ → ℕ → List ℕ
+frames_in i n = set_frames i n 0 64

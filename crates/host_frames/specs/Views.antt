@@ -1,9 +1,10 @@
 -- What a seat's view says, and how it changes.
-use Rattle.std.specs.Prelude.{◌≡◌, ℕ, ◌+◌, ◌-◌, List, [], ◌∷◌, ◌++◌, length}
+use Rattle.std.specs.Prelude.{◌≡◌, ℕ, ◌+◌, ◌-◌, List, [], ◌∷◌, ◌++◌, length, bit_and}
+use Rattle.std.specs.Int.{bit_not, w64}
 use Rattle.host_frames.specs.declared.rule.Opening.{Opening}
 use Rattle.host_frames.specs.declared.view.View.{View}
 use Rattle.host_frames.specs.declared.view.Claim.{Claim}
-use Rattle.host_frames.specs.Sums.{count}
+use Rattle.host_frames.specs.Sums.{count, frames_in}
 use Rattle.host_frames.specs.Claims.{won_by, taken_by}
 
 -- ---- what the rule counts
@@ -11,13 +12,17 @@ use Rattle.host_frames.specs.Claims.{won_by, taken_by}
 abbrev pub times_out : ℕ → View → ℕ
 times_out f v = count f v.frames_out
 
+-- how often it names a frame that it has won, and whose page is in its slot
+abbrev pub times_to_fetch : ℕ → View → ℕ
+times_to_fetch f v = count f v.to_fetch
+
 -- how often it names a frame whose slot is out with the seat
 abbrev pub times_held : ℕ → View → ℕ
 times_held f v = count f v.slots_held
 
 -- how many frames it names
 abbrev pub named_count : View → ℕ
-named_count v = length v.frames_out + length v.slots_held
+named_count v = length v.to_fetch + length v.frames_out + length v.slots_held
 
 abbrev pub share_of : View → ℕ
 share_of v = v.share
@@ -36,12 +41,12 @@ times_taken f v = taken_by f v.claims
 
 -- a view that stands for no seat has no claim and no number
 abbrev pub IsQuiet : View → Type 0
-IsQuiet v = v.share ≡ 0 → (v.granted ≡ 0) × (v.given_back ≡ 0) × (v.claims ≡ []) × (v.slots_held ≡ [])
+IsQuiet v = v.share ≡ 0 → (v.granted ≡ 0) × (v.given_back ≡ 0) × (v.claims ≡ []) × (v.slots_held ≡ []) × (v.to_fetch ≡ [])
 
 -- ---- views of seats
 -- a seat that has claimed nothing yet, and stands for n seats
 abbrev pub idle_view : ℕ → ℕ → View
-idle_view n b = record { share = n; page_size = b; granted = 0; given_back = 0; claims = []; frames_out = []; slots_held = [] }
+idle_view n b = record { share = n; page_size = b; granted = 0; given_back = 0; claims = []; to_fetch = []; frames_out = []; slots_held = [] }
 
 -- the view that the pool is made with: it makes the seats
 abbrev pub first_view : Opening → View
@@ -57,7 +62,7 @@ new_seat_view v = idle_view 1 v.page_size
 
 -- it has taken in another seat for good
 abbrev pub gathered_view : View → View → View
-gathered_view v w = record { share = v.share + w.share; page_size = v.page_size; granted = v.granted + w.granted; given_back = v.given_back + w.given_back; claims = w.claims ++ v.claims; frames_out = w.frames_out ++ v.frames_out; slots_held = w.slots_held ++ v.slots_held }
+gathered_view v w = record { share = v.share + w.share; page_size = v.page_size; granted = v.granted + w.granted; given_back = v.given_back + w.given_back; claims = w.claims ++ v.claims; to_fetch = w.to_fetch ++ v.to_fetch; frames_out = w.frames_out ++ v.frames_out; slots_held = w.slots_held ++ v.slots_held }
 
 -- it was taken in
 abbrev pub spent_view : View
@@ -66,7 +71,7 @@ spent_view = idle_view 0 0
 -- ---- views of pages that are out
 -- the view of pages with these frames
 abbrev pub out_view : ℕ → List ℕ → View
-out_view b fs = record { share = 0; page_size = b; granted = 0; given_back = 0; claims = []; frames_out = fs; slots_held = [] }
+out_view b fs = record { share = 0; page_size = b; granted = 0; given_back = 0; claims = []; to_fetch = []; frames_out = fs; slots_held = [] }
 
 -- the frames of one claim, under a view of their own
 abbrev pub packed_view : View → View
@@ -82,35 +87,36 @@ unpacked_view v w = record v { frames_out = w.frames_out ++ v.frames_out }
 
 -- ---- what a step makes of a view
 abbrev pub new_claim : ℕ → Claim
-new_claim n = record { asked = n; won = []; taken = []; passed = 0 }
+new_claim n = record { asked = n; won = []; taken = [] }
 
 -- a claim of n frames begins
 abbrev pub asking_view : ℕ → View → View
 asking_view n v = record v { claims = new_claim n ∷ v.claims }
 
--- the frame that the last claim looks at next
-abbrev pub next_of : List Claim → ℕ
-next_of [] = 0
-next_of (c ∷ cs) = c.passed
+-- the claim finds taken those frames of word i whose bits in n are set
+abbrev pub looks : ℕ → ℕ → Claim → Claim
+looks i n c = record c { taken = frames_in i n ++ c.taken }
 
-abbrev pub wins : Claim → Claim
-wins c = record c { won = c.passed ∷ c.won; passed = c.passed + 1 }
+-- the frames of word i that a mask wins where it finds n
+abbrev pub won_in : ℕ → ℕ → ℕ → List ℕ
+won_in i mask n = frames_in i (bit_and mask (bit_not w64 n))
 
-abbrev pub misses : Claim → Claim
-misses c = record c { taken = c.passed ∷ c.taken; passed = c.passed + 1 }
+-- the claim wins them, and finds the others of the mask taken
+abbrev pub wins : ℕ → ℕ → ℕ → Claim → Claim
+wins i mask n c = record c { won = won_in i mask n ++ c.won; taken = frames_in i (bit_and mask n) ++ c.taken }
 
 -- the last claim changes
 abbrev pub on_first : (Claim → Claim) → List Claim → List Claim
 on_first g [] = []
 on_first g (c ∷ cs) = g c ∷ cs
 
--- the last claim wins its next frame, and has its slot
-abbrev pub winning_view : View → View
-winning_view v = record v { claims = on_first wins v.claims; slots_held = next_of v.claims ∷ v.slots_held; granted = v.granted + 1 }
+-- the last claim looks at word i, and finds n
+abbrev pub looking_view : ℕ → ℕ → View → View
+looking_view i n v = record v { claims = on_first (looks i n) v.claims }
 
--- the last claim finds its next frame taken
-abbrev pub missing_view : View → View
-missing_view v = record v { claims = on_first misses v.claims }
+-- the last claim sets the bits of a mask in word i, and finds n
+abbrev pub winning_view : ℕ → ℕ → ℕ → View → View
+winning_view i mask n v = record v { claims = on_first (wins i mask n) v.claims; to_fetch = won_in i mask n ++ v.to_fetch; granted = v.granted + length (won_in i mask n) }
 
 abbrev pub first_of : List ℕ → ℕ
 first_of [] = 0
@@ -119,6 +125,10 @@ first_of (f ∷ fs) = f
 abbrev pub others : List ℕ → List ℕ
 others [] = []
 others (f ∷ fs) = fs
+
+-- the slot of a frame that was won is taken
+abbrev pub fetching_view : View → View
+fetching_view v = record v { to_fetch = others v.to_fetch; slots_held = first_of v.to_fetch ∷ v.slots_held }
 
 -- the slot goes home, and its page is out
 abbrev pub settled_view : View → View

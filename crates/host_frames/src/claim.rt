@@ -1,11 +1,13 @@
-//! A claim goes over the frames of the pool once.
-ghost use Rattle.std.specs.Prelude.{◌≡◌, ◌⊎◌, ◌+◌, ◌-◌, ◌<◌, ◌≤◌, [], ◌∷◌, length, replicate, MatchOption, MatchResult, vec_capacity, All};
+//! A claim goes over the words of claim bits once.
+ghost use Rattle.std.specs.Prelude.{◌≡◌, ◌⊎◌, ℕ, ◌+◌, ◌-◌, ◌*◌, ◌<◌, ◌≤◌, [], ◌∷◌, length, replicate, MatchResult, vec_capacity, All};
 ghost use Rattle.host_frames.specs.declared.view.Claim.{Claim};
-ghost use Rattle.host_frames.specs.Claims.{Covers, IsRefused};
-ghost use Rattle.host_frames.specs.Views.{missing_view, winning_view, settled_view};
+ghost use Rattle.host_frames.specs.declared.view.View.{View};
+ghost use Rattle.host_frames.specs.Sums.{count, frames_in};
+ghost use Rattle.host_frames.specs.Claims.{times_met, Covers, IsRefused};
+ghost use Rattle.host_frames.specs.Views.{settled_view, fetching_view};
 ghost use Rattle.host_frames.specs.Homes.{IsBlankPage};
-ghost use Rattle.host_frames.specs.Badges.{IsInWords};
-ghost use Rattle.host_frames.specs.Moments.{IsIdle, IsTrying, HasClaimed, HasPages, refusing_view};
+ghost use Rattle.host_frames.specs.Badges.{IsInWords, frames_of_pages};
+ghost use Rattle.host_frames.specs.Moments.{IsIdle, IsNextToFetch, IsFetching, IsMaskBelow, IsPick, HasClaimed, HasGoneOn, HasMetWord, HasPages, fetched_view, refusing_view};
 ghost use Rattle.host_frames.specs.Seats.{pool_id, seat_pool, pages_pool, page_size, frame_count, contents, room, claims, granted, given_back};
 
 use crate::no_frames::NoFrames;
@@ -13,7 +15,7 @@ use crate::page::Page;
 use crate::pages::Pages;
 use crate::pool::Pool;
 use crate::seat::PoolSeat;
-use crate::steps::{BeginClaim, GiveUp, LeaveSlot, PackPages, TryFrame};
+use crate::steps::{BeginClaim, FetchPage, GiveUp, LeaveSlot, LookAtWord, PackPages, WinFrames};
 use crate::view::View;
 use atomic_table::{Badge, Seat};
 
@@ -25,7 +27,7 @@ impl Pool {
         ensures seat { (seat_pool seat.new ≡ seat_pool seat.old) × (given_back seat.new ≡ given_back seat.old) × (room into.new ≡ room into.old) }
         ensures claim { (c : Claim) × (claims seat.new ≡ c ∷ claims seat.old) × (c.asked ≡ n) × MatchResult result
             (λ _. length c.won ≡ n)
-            (λ _. (length c.won < n) × Covers (frame_count self.now) c × IsRefused (frame_count self.now) c) }
+            (λ _. IsRefused (frame_count self.now) c) }
         ensures granted { MatchResult result (λ _. granted seat.new ≡ granted seat.old + n) (λ _. granted seat.new ≡ granted seat.old) }
         ensures pages { MatchResult result
             (λ _. (contents into.new ≡ replicate n (replicate (page_size self.now) 0)) × (pages_pool into.new ≡ pool_id self.now))
@@ -50,40 +52,118 @@ impl Pool {
         requires pages { (pages.old.items ≡ []) × (n ≤ vec_capacity pages.old) }
         ensures same { (seat.new.table_id ≡ seat.old.table_id) × (seat.new.id ≡ seat.old.id) × (vec_capacity pages.new ≡ vec_capacity pages.old) }
         ensures in_words { All (IsInWords self.now.table.shared.table_id.words) pages.new.items }
-        ensures claim { (c : Claim) × HasClaimed n seat.old.me.0 c seat.new.me pages.new.items × ((length c.won ≡ n) ⊎ IsRefused self.now.frames c) }
+        ensures claim { (c : Claim) × HasClaimed n seat.old.me.0 c seat.new.me pages.new.items × ((length pages.new.items ≡ n) ⊎ Covers self.now.frames c) }
     {
         let shared = &self.table.shared;
         shared.compare_exchange::<BeginClaim>(seat, 0, n as u64, n as u64);
-        for frame in 0..self.frames {
+        for word in 0..self.frames.div_ceil(64) {
             if pages.len() == n as usize {
                 return;
             }
-            if let Some(bytes) = self.try_frame(seat, frame) {
+            self.win_word(seat, word, n, pages);
+        }
+    }
+
+    // The claim at one word: it goes on until it has n pages, or no bit is clear that it hasn't tried.
+    fn win_word(
+        &self,
+        seat: &mut Seat<Option<Vec<u8>>, View>,
+        word: u32,
+        n: u32,
+        pages: &mut Vec<Page>,
+    )
+        requires table { seat.old.table_id ≡ self.now.table.shared.table_id }
+        requires word { 64 * word < self.now.frames }
+        requires in_words { All (IsInWords self.now.table.shared.table_id.words) pages.old.items }
+        requires room { n ≤ vec_capacity pages.old }
+        requires claim { (v : View) × (c : Claim) × HasClaimed n v c seat.old.me pages.old.items }
+        ensures same { (seat.new.table_id ≡ seat.old.table_id) × (seat.new.id ≡ seat.old.id) × (vec_capacity pages.new ≡ vec_capacity pages.old) }
+        ensures in_words { All (IsInWords self.now.table.shared.table_id.words) pages.new.items }
+        ensures claim { (v : View) (c : Claim) → HasClaimed n v c seat.old.me pages.old.items →
+            (d : Claim) × HasClaimed n v d seat.new.me pages.new.items × HasGoneOn c d
+            × ((length pages.new.items ≡ n) ⊎ HasMetWord self.now.frames word d) }
+    {
+        let shared = &self.table.shared;
+        let found = shared.load::<LookAtWord>(seat, word as usize);
+        if found == u64::MAX {
+            return;
+        }
+        let limit = (self.frames - 64 * word).min(64);
+        let mut from = 0;
+        while from < limit && pages.len() < n as usize {
+            let (mask, end) = pick(found, from, limit, n - pages.len() as u32);
+            self.win_bits(seat, word, mask, pages);
+            from = end;
+        }
+    }
+
+    // The claim sets the bits of a mask, all at once, and fetches the pages of the frames that it wins.
+    fn win_bits(
+        &self,
+        seat: &mut Seat<Option<Vec<u8>>, View>,
+        word: u32,
+        mask: u64,
+        pages: &mut Vec<Page>,
+    )
+        requires table { seat.old.table_id ≡ self.now.table.shared.table_id }
+        requires word { 64 * word < self.now.frames }
+        requires mask { IsMaskBelow self.now.frames word mask }
+        requires in_words { All (IsInWords self.now.table.shared.table_id.words) pages.old.items }
+        requires claim { (n : ℕ) × (v : View) × (c : Claim) × HasClaimed n v c seat.old.me pages.old.items
+            × (length pages.old.items + length (frames_in word mask) ≤ n) × (n ≤ vec_capacity pages.old) }
+        ensures same { (seat.new.table_id ≡ seat.old.table_id) × (seat.new.id ≡ seat.old.id) × (vec_capacity pages.new ≡ vec_capacity pages.old) }
+        ensures in_words { All (IsInWords self.now.table.shared.table_id.words) pages.new.items }
+        ensures claim { (n : ℕ) (v : View) (c : Claim) → HasClaimed n v c seat.old.me pages.old.items →
+            (d : Claim) × HasClaimed n v d seat.new.me pages.new.items
+            × ((f : ℕ) → times_met f c + count f (frames_in word mask) ≤ times_met f d) }
+    {
+        let shared = &self.table.shared;
+        let found = shared.fetch_or::<WinFrames>(seat, word as usize, mask);
+        self.fetch_pages(seat, word, mask & !found, pages);
+    }
+
+    // The pages of the frames that were won in one word.
+    fn fetch_pages(
+        &self,
+        seat: &mut Seat<Option<Vec<u8>>, View>,
+        word: u32,
+        won: u64,
+        pages: &mut Vec<Page>,
+    )
+        requires table { seat.old.table_id ≡ self.now.table.shared.table_id }
+        requires won { IsMaskBelow self.now.frames word won }
+        requires in_words { All (IsInWords self.now.table.shared.table_id.words) pages.old.items }
+        requires seat { IsFetching (frames_in word won) (frames_of_pages pages.old.items) seat.old.me }
+        requires room { length pages.old.items + length (frames_in word won) ≤ vec_capacity pages.old }
+        requires blank { All (λ p. IsBlankPage seat.old.me.0.page_size p.bytes) pages.old.items }
+        ensures same { (seat.new.table_id ≡ seat.old.table_id) × (seat.new.id ≡ seat.old.id) × (vec_capacity pages.new ≡ vec_capacity pages.old) }
+        ensures in_words { All (IsInWords self.now.table.shared.table_id.words) pages.new.items }
+        ensures fetched { seat.new.me ≡ (fetched_view seat.old.me.0 [] (frames_of_pages pages.new.items), []) }
+        ensures count { length pages.new.items ≡ length pages.old.items + length (frames_in word won) }
+        ensures blank { All (λ p. IsBlankPage seat.old.me.0.page_size p.bytes) pages.new.items }
+    {
+        for bit in 0..64 {
+            if won >> bit & 1 == 1 {
+                let frame = 64 * word + bit;
+                let bytes = self.fetch_page(seat, frame);
                 pages.push_reserved(Page { frame, bytes });
             }
         }
     }
 
-    // The page of the next frame, where the seat has won it.
-    fn try_frame(&self, seat: &mut Seat<Option<Vec<u8>>, View>, frame: u32) -> Option<Vec<u8>>
+    // The page of a frame that was won. Its slot goes home empty.
+    fn fetch_page(&self, seat: &mut Seat<Option<Vec<u8>>, View>, frame: u32) -> Vec<u8>
         requires table { seat.old.table_id ≡ self.now.table.shared.table_id }
-        requires frame { frame < self.now.frames }
-        requires claim { IsTrying frame seat.old.me }
+        requires frame { IsNextToFetch frame seat.old.me }
         ensures same { (seat.new.table_id ≡ seat.old.table_id) × (seat.new.id ≡ seat.old.id) }
-        ensures found { MatchOption result
-            (seat.new.me ≡ (missing_view seat.old.me.0, []))
-            (λ p. (seat.new.me ≡ (settled_view (winning_view seat.old.me.0), [])) × IsBlankPage seat.old.me.0.page_size p) }
+        ensures fetched { seat.new.me ≡ (settled_view (fetching_view seat.old.me.0), []) }
+        ensures blank { IsBlankPage seat.old.me.0.page_size result }
     {
         let shared = &self.table.shared;
-        let mask = 1u64 << (frame % 64);
-        let found = shared.fetch_or::<TryFrame>(seat, (frame / 64) as usize, mask);
-        if found & mask == 0 {
-            let page = shared.exchange(seat, frame as usize, None);
-            shared.load::<LeaveSlot>(seat, 0);
-            page
-        } else {
-            None
-        }
+        shared.load::<FetchPage>(seat, 0);
+        let page = shared.exchange(seat, frame as usize, None);
+        shared.load::<LeaveSlot>(seat, 0);
+        page.unwrap()
     }
 
     // A claim that got too few brings its pages home.
@@ -104,4 +184,26 @@ impl Pool {
                 .fetch_and::<GiveUp>(seat, (frame / 64) as usize, rest);
         }
     }
+}
+
+// The lowest bits from `from` on that are clear in a word, at most `need` of them, and the bit where it stopped.
+fn pick(found: u64, from: u32, limit: u32, need: u32) -> (u64, u32)
+    requires { (from < limit) × (limit ≤ 64) × (0 < need) }
+    ensures end { (from < result.1) × (result.1 ≤ limit) }
+    ensures bits { IsPick found from result.1 result.0 }
+    ensures few { length (frames_in 0 result.0) ≤ need }
+{
+    let mut mask = 0u64;
+    let mut left = need;
+    for j in from..limit {
+        if left == 0 {
+            return (mask, j);
+        }
+        let bit = 1u64 << j;
+        if found & bit == 0 {
+            mask |= bit;
+            left -= 1;
+        }
+    }
+    (mask, limit)
 }

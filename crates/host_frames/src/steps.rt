@@ -1,6 +1,6 @@
 //! What each step of a seat tells. These types are for the proofs alone.
 ghost use Rattle.host_frames.specs.Views.{view_after_making, new_seat_view, packed_view, emptied_view, unpacked_view, gathered_view, spent_view};
-ghost use Rattle.host_frames.specs.Steps.{BeginsClaim, TriesFrame, LeavesSlot, TakesSlot, BringsHome, GivesUp};
+ghost use Rattle.host_frames.specs.Steps.{BeginsClaim, LooksAtWord, WinsFrames, FetchesPage, LeavesSlot, TakesSlot, BringsHome, GivesUp};
 ghost use Rattle.host_frames.specs.Homes.{IsBlankPage};
 
 use crate::view::View;
@@ -13,11 +13,25 @@ impl Play<Option<Vec<u8>>, View> for BeginClaim {
     ghost then = { BeginsClaim IsBlankPage };
 }
 
-/// A claim tries the next frame, and takes its slot where it won.
-pub struct TryFrame;
+/// A claim looks at a word.
+pub struct LookAtWord;
 
-impl Play<Option<Vec<u8>>, View> for TryFrame {
-    ghost then = { TriesFrame IsBlankPage };
+impl Play<Option<Vec<u8>>, View> for LookAtWord {
+    ghost then = { LooksAtWord IsBlankPage };
+}
+
+/// A claim sets bits of a word, and wins the frames whose bits were clear.
+pub struct WinFrames;
+
+impl Play<Option<Vec<u8>>, View> for WinFrames {
+    ghost then = { WinsFrames IsBlankPage };
+}
+
+/// The slot of a frame that was won is taken, with its page.
+pub struct FetchPage;
+
+impl Play<Option<Vec<u8>>, View> for FetchPage {
+    ghost then = { FetchesPage IsBlankPage };
 }
 
 /// The slot of a frame goes home empty, since its page is out.

@@ -9,8 +9,6 @@ pub struct Claim {
     pub won: LinkedList<u32>,
     /// The frames that it found taken.
     pub taken: LinkedList<u32>,
-    /// How many frames it has looked at.
-    pub passed: u32,
 }
 
 pub struct View {
@@ -24,6 +22,8 @@ pub struct View {
     pub given_back: u64,
     /// The last one stands first.
     pub claims: LinkedList<Claim>,
+    /// The frames that its claim has won, and whose pages are still in their slots.
+    pub to_fetch: LinkedList<u32>,
     /// The frames whose pages are out.
     pub frames_out: LinkedList<u32>,
     /// The frames whose slots are out with the seat.

@@ -1,4 +1,5 @@
-use Rattle.std.proofs.Common.{arith, ap, sym, ◌∙◌, ◌≡◌, length, replicate}
+use Rattle.std.proofs.Common.{arith, ap, sym, refl, subst, ◌∙◌, ◌≡◌, ◌-◌, ◌+◌, ℕ, [], inl, inr, ⊎_elim, length, replicate, All}
+use Rattle.host_frames.specs.declared.page.Page.{Page}
 use Rattle.host_frames.specs.Homes.{IsBlankPage}
 use Rattle.host_frames.specs.Badges.{badge_page_size}
 use Rattle.host_frames.proofs.Seating.{packs}
@@ -11,9 +12,29 @@ split_seat-packed-requires c = let b = c.args.self.now in let some = b.some.0 in
 
 pub returns-else-len-n-clause-pages : goal.returns-else-len-n-clause-pages
 returns-else-len-n-clause-pages c = let did = c.win_frames.ensures.claim in let ps = c.win_frames.new.pages in let v = c.args.seat.now.seat.me.0 in let cut = c.split_seat-packed.ensures in let badge = c.into_badge.ensures in
-    let ok = ps.ok.0 in let len = c.len.ensures in let no = c.if-len-n.false in let le = did.1.4 in let long = named_length ps.items in let same : length did.0.won ≡ length ps.items = ap length (sym did.1.3.0) ∙ long in
+    let ok = ps.ok.0 in let len = c.len.ensures in let enough = c.if-len-n.false in let le = did.1.3 in
     let all : length ps.items ≡ c.args.n = omega arith in
     let size : v.page_size ≡ c.args.self.now.table.shared.key.page_size = ap (λ z. z.1) c.requires.pool in (
-      blank_contents v.page_size ps.items did.1.3.1 ∙ (λ i. replicate (all i) (replicate (size i) 0)),
+      blank_contents v.page_size ps.items did.1.4 ∙ (λ i. replicate (all i) (replicate (size i) 0)),
       (λ i. ((badge.0 ∙ (cut.3 ∙ c.win_frames.ensures.same.0)) i, (ap badge_page_size badge.2 ∙ (ap (λ z. z.0.page_size) cut.4 ∙ ap (λ z. z.0.page_size) did.1.0)) i)) ∙ c.requires.pool,
     )
+
+-- a claim that got too few
+pub give_up-requires-clause-seat : goal.give_up-requires-clause-seat
+give_up-requires-clause-seat c = let h = c.win_frames.ensures.claim.1 in let ps = c.win_frames.new.pages.items in let long = named_length ps in let names = ap (λ z. length z.0.frames_out) h.0 in let sum = ap (λ z. z.0.granted) h.0 in let won = h.2 in
+    (ap (λ z. z.0.share) h.0, ap (λ z. z.0.slots_held) h.0, ap (λ z. z.1) h.0, omega arith)
+
+pub give_up-requires-clause-pages : goal.give_up-requires-clause-pages
+give_up-requires-clause-pages c = let h = c.win_frames.ensures.claim.1 in
+    (sym (ap (λ z. z.0.frames_out) h.0), subst (λ (z : ℕ). All (λ (p : Page). IsBlankPage z p.bytes) c.win_frames.new.pages.items) (sym (ap (λ z. z.0.page_size) h.0)) h.4)
+
+pub returns-then-len-n-clause-claim : goal.returns-then-len-n-clause-claim
+returns-then-len-n-clause-claim c = let did = c.win_frames.ensures.claim in let h = did.1 in let ps = c.win_frames.new.pages in let ok = ps.ok.0 in let len = c.len.ensures in let few = c.if-len-n.true in let won = h.2 in let asked = h.1 in (
+  did.0,
+  ap (λ z. z.0.claims) c.give_up.ensures.given_up ∙ ap (λ z. z.0.claims) h.0,
+  asked,
+  (⊎_elim (λ all. absurd (omega arith)) (λ covers. covers) did.2, omega arith),
+)
+
+pub returns-then-len-n-clause-granted : goal.returns-then-len-n-clause-granted
+returns-then-len-n-clause-granted c = let h = c.win_frames.ensures.claim.1 in let ps = c.win_frames.new.pages.items in let long = named_length ps in let names = ap (λ z. length z.0.frames_out) h.0 in let sum = ap (λ z. z.0.granted) h.0 in let won = h.2 in let now = ap (λ z. z.0.granted) c.give_up.ensures.given_up in omega arith

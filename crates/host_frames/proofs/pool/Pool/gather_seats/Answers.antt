@@ -11,7 +11,7 @@ use Rattle.host_frames.proofs.pool.Pool.gather_seats.Goals as goal
 pub join_seat-requires : goal.join_seat-requires
 join_seat-requires c = let b = c.args.self.now in let some = b.some.0 in let words = b.words in let inv = c.loop-seat.invariant in let q : PoolSeat = c.in-Some.field-0 in
     let popped = All-pop (λ (z : PoolSeat). seat_pool z ≡ pool_id b) c.loop-seat.seats.items c.pop.new.self.items (Some q) c.in-Some.ensures.items inv.2 in let has = inv.3.2 in
-    (inv.0 ∙ c.requires.base.0, ap (λ z. z.0) popped.1, q.idle.3, omega arith, gathers IsBlankPage b.table.shared.key _ _ _ _ (λ z. let parts : c.loop-seat.base.me.0.share ≡ length inv.3.0 + 1 = ap (λ t. t.0.share) has in absurd (omega arith)))
+    (inv.0 ∙ c.requires.base.0, ap (λ z. z.0) popped.1, q.idle.4, omega arith, gathers IsBlankPage b.table.shared.key _ _ _ _ (λ z. let parts : c.loop-seat.base.me.0.share ≡ length inv.3.0 + 1 = ap (λ t. t.0.share) has in absurd (omega arith)))
 
 pub loop-seat-init : goal.loop-seat-init
 loop-seat-init c = (refl, refl, c.requires.seats, ([], append-nil c.args.seats.items, gather_begins c.args.base.now.me.0 c.args.base.now.me refl c.requires.base.1))
