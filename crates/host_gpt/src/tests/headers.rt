@@ -1,3 +1,5 @@
+ghost use Rattle.std.specs.Prelude.{◌≡◌, length};
+
 use super::{Answer, answer_of};
 use crate::{TableError, Which, crc32};
 use byteorder::{ByteOrder, LittleEndian};
@@ -114,8 +116,10 @@ const ROWS: [Row; 20] = [
     },
 ];
 
-fn header(row: &Row, array_crc: u32) -> [u8; 512] {
-    let mut header = [0; 512];
+// Writes the header of a row into a block of zeros.
+fn fill_header(header: &mut [u8], row: &Row, array_crc: u32)
+    requires { length header.old ≡ 512 }
+{
     header[..8].copy_from_slice(b"EFI PART");
     LittleEndian::write_u32(&mut header[12..], row.header_size);
     LittleEndian::write_u64(&mut header[24..], row.my_lba);
@@ -125,15 +129,15 @@ fn header(row: &Row, array_crc: u32) -> [u8; 512] {
     LittleEndian::write_u32(&mut header[88..], array_crc);
     let crc = crc32(&header[..row.header_size.min(512) as usize]);
     LittleEndian::write_u32(&mut header[16..], crc);
-    header
 }
 
 // An image of so many bytes with this header in the second block.
 fn image_with(alloc: Global, len: usize, size: u32, row: &Row) -> Result<Vec<u8>, AllocError> {
     let array = row.count as u64 * row.entry_size as u64;
     let zeros = vec![in alloc; 0u8; array.min(1_048_576) as usize]?;
-    let mut image = vec![in alloc; 0u8; size as usize]?;
-    image.extend_from_slice(&header(row, crc32(&zeros)))?;
+    let start = size as usize;
+    let mut image = vec![in alloc; 0u8; start + 512]?;
+    fill_header(&mut image[start..], row, crc32(&zeros));
     image.resize(len, 0)?;
     Ok(image)
 }
