@@ -100,10 +100,15 @@ fn first_byte(bytes: &[u8]) -> u8
     }
 }
 
+// Whether all of these are this byte. To look at each is faster than to stop at the first other one.
 fn are_all(bytes: &[u8], byte: u8) -> bool
     ensures { result ≡ list_all (λ b. b == byte) bytes.now }
 {
-    bytes.iter().all(|b| *b == byte)
+    let mut same = true;
+    for b in bytes {
+        same &= *b == byte;
+    }
+    same
 }
 
 fn put_hex<K: Sink>(bytes: &[u8], held: &mut Held, out: &mut K) -> Result<(), SinkFailed>
