@@ -2,7 +2,7 @@
 use Rattle.std.proofs.Common.{ℕ, Bool, List, [], Result, Ok, Err}
 use Rattle.std.proofs.lemmas.List.{append-nil}
 use Rattle.host_io.specs.Causes.{HasCause}
-use Rattle.host_report.specs.Writing.{Writes}
+use Rattle.host_text.specs.Writing.{Writes}
 use Rattle.blockhost.specs.Writes.{PutsText}
 
 -- what a text that was put, whole or not, leaves in the sink

@@ -1,7 +1,7 @@
 //! A piece of text, put whole into a sink that may take less than it is given.
 ghost use Rattle.std.specs.Prelude.{◌≡◌};
 ghost use Rattle.host_io.specs.Causes.{HasCause};
-ghost use Rattle.host_report.specs.Writing.{Writes};
+ghost use Rattle.host_text.specs.Writing.{Writes};
 
 use host_io::{Sink, SinkFailed};
 

@@ -1,5 +1,3 @@
-mod PrintedLemmas
-mod Putting
 pub mod LegalTests
 pub mod Ranges
 pub mod RealisticRun

@@ -2,9 +2,7 @@ pub mod Lawful
 pub mod Laws
 pub mod LogText
 pub mod Played
-pub mod Printed
 pub mod StepText
 pub mod Summary
 pub mod Text
 pub mod Words
-pub mod Writing

@@ -8,7 +8,8 @@ use Rattle.host_model.specs.declared.event.AttachError.TheVariants as attach
 use Rattle.host_model.specs.declared.event.Event.{Event}
 use Rattle.host_model.specs.declared.event.Event.TheVariants.{Attached, NotAttached, Filled, Sent, Received, Shown, Drained, Aborted}
 use Rattle.host_model.specs.Lists.{below}
-use Rattle.host_report.specs.Words.{hex, hex_byte, block_word, inner, innermost, yes_or_no}
+use Rattle.host_report.specs.Words.{inner, innermost, yes_or_no}
+use Rattle.host_text.specs.Words.{hex, hex_byte, block_word}
 
 abbrev pub cause_word : AttachError → List ℕ
 cause_word attach.NoFrames = codes "no-frames"

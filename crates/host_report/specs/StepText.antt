@@ -12,7 +12,8 @@ use Rattle.host_model.specs.declared.row.TakenRow.{TakenRow}
 use Rattle.host_model.specs.declared.step.Step.{Step}
 use Rattle.host_model.specs.declared.verdict.Verdict.{Verdict}
 use Rattle.host_model.specs.declared.verdict.Verdict.TheVariants.{Accepted, Refused}
-use Rattle.host_report.specs.Words.{hex_byte, block_word, inner}
+use Rattle.host_report.specs.Words.{inner}
+use Rattle.host_text.specs.Words.{hex_byte, block_word}
 
 -- ---- rows
 

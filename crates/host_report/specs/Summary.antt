@@ -6,7 +6,7 @@ use Rattle.host_model.specs.declared.event.Event.TheVariants.{Sent, Received}
 use Rattle.host_report.specs.declared.report.Report.{Report}
 use Rattle.host_report.specs.declared.session.SessionReport.{SessionReport}
 use Rattle.host_report.specs.Text.{end_text, steps_line}
-use Rattle.host_report.specs.Words.{line}
+use Rattle.host_text.specs.Words.{line}
 
 -- ---- what is counted
 

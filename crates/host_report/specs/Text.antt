@@ -10,7 +10,7 @@ use Rattle.host_report.specs.declared.report.Report.{Report}
 use Rattle.host_report.specs.declared.session.SessionReport.{SessionReport}
 use Rattle.host_report.specs.LogText.{event_text}
 use Rattle.host_report.specs.StepText.{entry_line, row_line, step_line}
-use Rattle.host_report.specs.Words.{line}
+use Rattle.host_text.specs.Words.{line}
 
 -- ---- single lines
 

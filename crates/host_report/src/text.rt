@@ -3,14 +3,11 @@
 mod counts;
 mod entry;
 mod event;
-mod held;
-mod put;
 mod report;
 mod row;
 mod session;
 mod step;
 mod summary;
-mod word;
 
 pub use report::write_report;
 pub use summary::write_summary;

@@ -1,15 +1,14 @@
 // The lines of what was done to a session's buffers.
 ghost use Rattle.std.specs.Prelude.{[], ◌∷◌, flat_map, codes, decimal};
 ghost use Rattle.host_report.specs.StepText.{entry_line};
-ghost use Rattle.host_report.specs.Words.{block_word, inner};
-ghost use Rattle.host_report.specs.Writing.{Puts};
+ghost use Rattle.host_report.specs.Words.{inner};
+ghost use Rattle.host_text.specs.Words.{block_word};
+ghost use Rattle.host_text.specs.Writing.{Puts};
 
-use super::held::Held;
-use super::put::put_line;
-use super::word::Word;
 use host_block::Bytes;
 use host_io::{Sink, SinkFailed};
 use host_model::{MemEntry, MemEvent};
+use host_text::{Held, Word, put_line};
 
 /// Puts a line for each entry of a history of buffers.
 pub fn write_entries<K: Sink>(

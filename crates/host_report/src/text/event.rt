@@ -2,18 +2,16 @@
 ghost use Rattle.std.specs.Prelude.{◌≡◌};
 ghost use Rattle.host_record.specs.Response.{response_fields};
 ghost use Rattle.host_report.specs.LogText.{answer_line, block_of, cause_word, event_line, event_text, shown_lines, shown_text};
-ghost use Rattle.host_report.specs.Printed.{printed};
+ghost use Rattle.host_text.specs.Printed.{printed};
 ghost use Rattle.host_report.specs.Words.{yes_or_no};
-ghost use Rattle.host_report.specs.Writing.{Puts};
+ghost use Rattle.host_text.specs.Writing.{Puts};
 
-use super::held::Held;
-use super::put::put_line;
-use super::word::Word;
 use byteorder::{ByteOrder, LittleEndian};
 use host_block::{BlockSize, Bytes};
 use host_io::{Sink, SinkFailed};
 use host_model::{AttachError, Event};
 use host_record::Response;
+use host_text::{Held, Word, put_line};
 
 /// Puts the lines of an event of a log; blocks have this size.
 pub fn write_event<K: Sink>(

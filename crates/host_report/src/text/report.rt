@@ -2,19 +2,17 @@
 ghost use Rattle.std.specs.Prelude.{◌≡◌, length};
 ghost use Rattle.host_gpt.specs.declared.which.Which.{Which};
 ghost use Rattle.host_io.specs.Causes.{HasCause};
-ghost use Rattle.host_report.specs.Printed.{printed};
+ghost use Rattle.host_text.specs.Printed.{printed};
 ghost use Rattle.host_report.specs.Text.{closing_word, end_text, head_text, report_text, steps_line, steps_text, which_word};
-ghost use Rattle.host_report.specs.Writing.{Puts, Writes};
+ghost use Rattle.host_text.specs.Writing.{Puts, Writes};
 
-use super::held::Held;
-use super::put::put_line;
 use super::session::write_sessions;
 use super::step::write_steps;
-use super::word::Word;
 use crate::closing::Closing;
 use crate::report::Report;
 use host_gpt::Which;
 use host_io::{Sink, SinkFailed};
+use host_text::{Held, Word, put_line};
 
 /// Puts the text of a report, with rows, entries and steps or without.
 pub fn write_report<K: Sink>(report: &Report, steps: bool, out: &mut K) -> Result<(), SinkFailed>

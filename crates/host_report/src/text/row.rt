@@ -2,13 +2,11 @@
 ghost use Rattle.std.specs.Prelude.{flat_map};
 ghost use Rattle.std.specs.List.{enumerate_from};
 ghost use Rattle.host_report.specs.StepText.{row_line};
-ghost use Rattle.host_report.specs.Writing.{Puts};
+ghost use Rattle.host_text.specs.Writing.{Puts};
 
-use super::held::Held;
-use super::put::put_line;
-use super::word::Word;
 use host_io::{Sink, SinkFailed};
 use host_model::{TakenRow, Verdict};
+use host_text::{Held, Word, put_line};
 
 /// Puts a line for each record that was taken.
 pub fn write_rows<K: Sink>(

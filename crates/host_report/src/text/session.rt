@@ -2,18 +2,16 @@
 ghost use Rattle.std.specs.Prelude.{true, flat_map};
 ghost use Rattle.host_report.specs.LogText.{event_text};
 ghost use Rattle.host_report.specs.Text.{session_line, session_text, taken_text};
-ghost use Rattle.host_report.specs.Writing.{Puts};
+ghost use Rattle.host_text.specs.Writing.{Puts};
 
 use super::entry::write_entries;
 use super::event::write_event;
-use super::held::Held;
-use super::put::put_line;
 use super::row::write_rows;
-use super::word::Word;
 use crate::session::SessionReport;
 use host_block::BlockSize;
 use host_io::{Sink, SinkFailed};
 use host_model::Event;
+use host_text::{Held, Word, put_line};
 
 /// Puts the lines of each session; blocks have this size. Rows and entries only with `steps`.
 pub fn write_sessions<K: Sink>(

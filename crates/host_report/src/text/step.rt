@@ -1,16 +1,15 @@
 // The lines of a device's steps.
 ghost use Rattle.std.specs.Prelude.{◌≡◌, [], ◌∷◌, ◌++◌, flat_map};
-ghost use Rattle.host_report.specs.Printed.{printed};
+ghost use Rattle.host_text.specs.Printed.{printed};
 ghost use Rattle.host_report.specs.StepText.{ok_or_fault, op_word, printed_block, step_line, step_words};
-ghost use Rattle.host_report.specs.Words.{block_word, inner};
-ghost use Rattle.host_report.specs.Writing.{Puts};
+ghost use Rattle.host_report.specs.Words.{inner};
+ghost use Rattle.host_text.specs.Words.{block_word};
+ghost use Rattle.host_text.specs.Writing.{Puts};
 
-use super::held::Held;
-use super::put::put_line;
-use super::word::Word;
 use host_block::Op;
 use host_io::{Sink, SinkFailed};
 use host_model::Step;
+use host_text::{Held, Word, put_line};
 
 /// Puts a line for each step of a device.
 pub fn write_steps<K: Sink>(steps: &[Step], held: &mut Held, out: &mut K) -> Result<(), SinkFailed>

@@ -2,15 +2,13 @@
 ghost use Rattle.std.specs.Prelude.{◌≡◌};
 ghost use Rattle.host_io.specs.Causes.{HasCause};
 ghost use Rattle.host_report.specs.Summary.{answers_line, load_line, summary_text};
-ghost use Rattle.host_report.specs.Writing.{Puts, Writes};
+ghost use Rattle.host_text.specs.Writing.{Puts, Writes};
 
 use super::counts::counts_of;
-use super::held::Held;
-use super::put::put_line;
 use super::report::{write_count, write_end};
-use super::word::Word;
 use crate::report::Report;
 use host_io::{Sink, SinkFailed};
+use host_text::{Held, Word, put_line};
 
 /// Puts the five lines of a summary.
 pub fn write_summary<K: Sink>(report: &Report, out: &mut K) -> Result<(), SinkFailed>

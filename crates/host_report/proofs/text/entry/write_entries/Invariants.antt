@@ -1,6 +1,6 @@
 use Rattle.std.proofs.Common.{take, flat_map}
 use Rattle.host_report.specs.StepText.{entry_line}
-use Rattle.host_report.specs.Writing.{Adds}
+use Rattle.host_text.specs.Writing.{Adds}
 use Rattle.host_report.proofs.text.entry.write_entries.Given as goal
 
 abbrev pub invariant-loop-entry : goal.invariant-loop-entry

@@ -1,7 +1,7 @@
 use Rattle.std.proofs.Common.{take, flat_map}
 use Rattle.host_model.specs.Lists.{below}
 use Rattle.host_report.specs.LogText.{shown_line}
-use Rattle.host_report.specs.Writing.{Adds}
+use Rattle.host_text.specs.Writing.{Adds}
 use Rattle.host_report.proofs.text.event.write_blocks.Given as goal
 
 abbrev pub invariant-loop-k : goal.invariant-loop-k

@@ -1,4 +1,4 @@
-use Rattle.host_report.proofs.Putting.{puts_exit, stops_longer}
+use Rattle.host_text.proofs.Putting.{puts_exit, stops_longer}
 use Rattle.host_report.proofs.text.event.write_event.Goals as goal
 
 pub returns-in_err-write_event_line : goal.returns-in_err-write_event_line

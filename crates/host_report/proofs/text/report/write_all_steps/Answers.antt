@@ -1,4 +1,4 @@
-use Rattle.host_report.proofs.Putting.{puts_exit, stops_longer}
+use Rattle.host_text.proofs.Putting.{puts_exit, stops_longer}
 use Rattle.host_report.proofs.text.report.write_all_steps.Goals as goal
 
 pub returns-in_err-write_count : goal.returns-in_err-write_count

@@ -1,4 +1,4 @@
-use Rattle.host_report.proofs.Putting.{puts_exit, stops_longer}
+use Rattle.host_text.proofs.Putting.{puts_exit, stops_longer}
 use Rattle.host_report.proofs.text.report.write_end.Goals as goal
 
 pub returns-in_err-put_line : goal.returns-in_err-put_line

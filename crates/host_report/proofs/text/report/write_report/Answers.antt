@@ -1,8 +1,8 @@
 use Rattle.std.proofs.Common.{◌≡◌, [], List, ℕ, subst, append-nil}
 use Rattle.std.proofs.lemmas.Result.{IfOk-from_err}
 use Rattle.host_report.specs.Text.{report_text}
-use Rattle.host_report.specs.Writing.{Puts}
-use Rattle.host_report.proofs.Putting.{finished, puts_after, puts_exit}
+use Rattle.host_text.specs.Writing.{Puts}
+use Rattle.host_text.proofs.Putting.{finished, puts_after, puts_exit}
 use Rattle.host_report.proofs.text.report.write_report.Goals as goal
 
 pub returns-in_err-write_text : goal.returns-in_err-write_text

@@ -5,7 +5,7 @@ use Rattle.host_model.specs.declared.row.TakenRow.{TakenRow}
 use Rattle.host_model.specs.declared.verdict.Verdict.TheVariants as verdict
 use Rattle.host_record.specs.declared.status.Status.TheVariants as status
 use Rattle.host_report.specs.StepText.{row_line}
-use Rattle.host_report.proofs.Putting.{adds_all, adds_at, puts_exit, stops_at}
+use Rattle.host_text.proofs.Putting.{adds_all, adds_at, puts_exit, stops_at}
 use Rattle.host_report.proofs.text.row.write_rows.Goals as goal
 
 abbrev fallback : TakenRow

@@ -1,7 +1,7 @@
 use Rattle.std.proofs.Common.{take, flat_map}
 use Rattle.std.specs.List.{enumerate_from}
 use Rattle.host_report.specs.StepText.{row_line}
-use Rattle.host_report.specs.Writing.{Adds}
+use Rattle.host_text.specs.Writing.{Adds}
 use Rattle.host_report.proofs.text.row.write_rows.Given as goal
 
 abbrev pub invariant-loop-index : goal.invariant-loop-index

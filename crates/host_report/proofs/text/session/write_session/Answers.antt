@@ -1,4 +1,4 @@
-use Rattle.host_report.proofs.Putting.{puts_exit, stops_later, stops_longer}
+use Rattle.host_text.proofs.Putting.{puts_exit, stops_later, stops_longer}
 use Rattle.host_report.proofs.text.session.write_session.Goals as goal
 
 pub returns-in_err-write_session_line : goal.returns-in_err-write_session_line

@@ -1,6 +1,6 @@
 use Rattle.std.proofs.Common.{take, flat_map}
 use Rattle.host_report.specs.Text.{session_text}
-use Rattle.host_report.specs.Writing.{Adds}
+use Rattle.host_text.specs.Writing.{Adds}
 use Rattle.host_report.proofs.text.session.write_sessions.Given as goal
 
 abbrev pub invariant-loop-session : goal.invariant-loop-session

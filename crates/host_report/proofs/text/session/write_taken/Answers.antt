@@ -1,4 +1,4 @@
-use Rattle.host_report.proofs.Putting.{puts_after, puts_exit, stops_longer}
+use Rattle.host_text.proofs.Putting.{puts_after, puts_exit, stops_longer}
 use Rattle.host_report.proofs.text.session.write_taken.Goals as goal
 
 pub returns-in_err-write_rows : goal.returns-in_err-write_rows

@@ -1,6 +1,6 @@
 use Rattle.std.proofs.Common.{take, flat_map}
 use Rattle.host_report.specs.StepText.{step_line}
-use Rattle.host_report.specs.Writing.{Adds}
+use Rattle.host_text.specs.Writing.{Adds}
 use Rattle.host_report.proofs.text.step.write_steps.Given as goal
 
 abbrev pub invariant-loop-step : goal.invariant-loop-step

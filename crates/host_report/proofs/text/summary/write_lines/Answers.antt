@@ -1,4 +1,4 @@
-use Rattle.host_report.proofs.Putting.{adds_more, puts_after, puts_exit, stops_later, stops_longer}
+use Rattle.host_text.proofs.Putting.{adds_more, puts_after, puts_exit, stops_later, stops_longer}
 use Rattle.host_report.proofs.text.summary.write_lines.Goals as goal
 
 pub returns-in_err-write_load : goal.returns-in_err-write_load

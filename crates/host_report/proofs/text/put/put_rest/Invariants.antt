@@ -1,7 +1,0 @@
-use Rattle.std.proofs.Common.{take, flat_map}
-use Rattle.host_report.specs.Printed.{after_space}
-use Rattle.host_report.specs.Writing.{Adds}
-use Rattle.host_report.proofs.text.put.put_rest.Given as goal
-
-abbrev pub invariant-loop-word : goal.invariant-loop-word
-invariant-loop-word g l = Adds g.K.Sink.tells g.K.Sink.faults g.K.Sink.appended l.initial.out l.initial.held l.out l.held (flat_map after_space (take l.word-index l.words))

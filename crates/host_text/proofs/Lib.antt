@@ -1,0 +1,2 @@
+mod PrintedLemmas
+pub mod Putting
