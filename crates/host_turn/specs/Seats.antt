@@ -6,7 +6,7 @@ use Rattle.atomic_table.specs.declared.shared.Seat.{Seat}
 use Rattle.host_turn.specs.declared.view.View.{View}
 use Rattle.host_turn.specs.declared.book.Book.{Book}
 use Rattle.host_turn.specs.declared.seat.BookSeat.{BookSeat}
-use Rattle.host_turn.specs.declared.view.Stage.TheVariants.{Maker, Outside, Waiting, Inside}
+use Rattle.host_turn.specs.declared.view.Stage.TheVariants.{Maker, Outside, Waiting, Inside, Note}
 use Rattle.host_turn.specs.History.{entries_of}
 use Rattle.host_turn.specs.Views.{is_at_rest, members_of}
 
@@ -84,6 +84,18 @@ module _ {S E F : Type 0} where
   -- the first seat of the table, which makes the others, and has made n of them
   abbrev pub IsMaker : (S → List E) → (S → F) → Book S E F → ℕ → ℕ → Seat (Option S) (View E F) → Type 0
   IsMaker story fixed b left n m = (m.table_id ≡ book_id b) × (m.me.0.stage ≡ Maker) × (m.me.0.share ≡ left) × (m.me.0.number ≡ n) × (m.me.0.seen ≡ story (opening_of b)) × (m.me.0.fixed ≡ Some (fixed (opening_of b)))
+
+  -- a note, which tells what a seat of this book has seen
+  abbrev pub IsNote : TableId → Seat (Option S) (View E F) → Type 0
+  IsNote b m = (m.table_id ≡ b) × (m.me.0.stage ≡ Note) × (m.me.1 ≡ [])
+
+  -- the history that a note tells
+  abbrev pub told_by : Seat (Option S) (View E F) → List E
+  told_by m = m.me.0.seen
+
+  -- the fixed part that goes with it
+  abbrev pub fixed_part_of : Seat (Option S) (View E F) → Option F
+  fixed_part_of m = m.me.0.fixed
 
   abbrev pub member_of : BookSeat S E F → ℕ × List E
   member_of q = (number q, seen_by q)

@@ -35,7 +35,7 @@ pub struct NoBook<S> {
 }
 
 impl<S: Story> Book<S> {
-    ghost use Rattle.host_turn.specs.Seats.{IsMaker, IsSeatOf, IsOutside, IsWaiting, IsInside, IsSameSeat, IsSeatOutside, IsNewSeat, AreNewSeats, HasGathered, IsSeenBySome, member_of, number, seen_by, fixed_part, own_entries, book_id, opening_of, seat_count};
+    ghost use Rattle.host_turn.specs.Seats.{IsMaker, IsSeatOf, IsOutside, IsWaiting, IsInside, IsSameSeat, IsSeatOutside, IsNewSeat, AreNewSeats, IsNote, HasGathered, IsSeenBySome, member_of, number, seen_by, told_by, fixed_part, fixed_part_of, own_entries, book_id, opening_of, seat_count};
 
     /// A book with its seats, numbered from 0 by their places. It has `NoBook` for an answer only for want of memory.
     pub fn new(
@@ -203,8 +203,33 @@ impl<S: Story> Book<S> {
         ensures seen { seen_by to.new ≡ longer (seen_by to.old) (seen_by from.old) }
         ensures fixed_part { fixed_part from.old ≡ fixed_part to.old }
     {
+        let note = self.write_note(from);
+        self.take_note(to, note);
+    }
+
+    // A note of what the seat has seen.
+    fn write_note(&self, from: &mut BookSeat<S>) -> Seat<Option<S>, View<S::Entry, S::Fixed>>
+        requires { IsSeatOf self.now from.old × IsOutside from.old }
+        ensures from { IsSameSeat from.old from.new × IsOutside from.new
+            × (seen_by from.new ≡ seen_by from.old) }
+        ensures note { IsNote (book_id self.now) result × (told_by result ≡ seen_by from.old)
+            × (fixed_part_of result ≡ fixed_part from.old) }
+    {
         let shared = &self.table.shared;
-        let note = shared.split_seat::<TellSeen>(&mut from.seat);
+        shared.split_seat::<TellSeen>(&mut from.seat)
+    }
+
+    // The seat takes a note in, and has then seen the longer of what it had seen and what the note tells.
+    fn take_note(&self, to: &mut BookSeat<S>, note: Seat<Option<S>, View<S::Entry, S::Fixed>>)
+        requires to { IsSeatOf self.now to.old × IsOutside to.old }
+        requires note { IsNote (book_id self.now) note }
+        ensures to { IsSameSeat to.old to.new × IsOutside to.new }
+        ensures told { IsPrefix (told_by note) (seen_by to.new) }
+        ensures later { Continues S.maker (number to.old) (seen_by to.old) (seen_by to.new) }
+        ensures seen { seen_by to.new ≡ longer (seen_by to.old) (told_by note) }
+        ensures fixed_part { fixed_part_of note ≡ fixed_part to.old }
+    {
+        let shared = &self.table.shared;
         shared.join_seat::<TellSeen>(&mut to.seat, note);
         shared.load::<MergeTold<S>>(&mut to.seat, SERVING);
     }
