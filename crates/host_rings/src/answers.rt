@@ -1,7 +1,7 @@
 //! The answer ring: how it is made with its ends, and closed with all of them.
 ghost use Rattle.std.specs.Prelude.{◌≡◌, Bool, ◌≤◌, [], true, length, map, IfOk};
 ghost use Rattle.std.specs.List.{sum_by, count_by};
-ghost use Rattle.crossbeam_queue.specs.Passes.{view, IsPassOf, ruled_capacity};
+ghost use Rattle.crossbeam_queue.specs.Passes.{view, IsPassOf};
 ghost use Rattle.host_rings.specs.Slips.{ComeFrom};
 ghost use Rattle.host_rings.specs.AnswerViews.{closing_view};
 ghost use Rattle.host_rings.specs.AnswerEnds.{slip_taker_of, AreFresh, AreAllOf};

@@ -1,6 +1,6 @@
 //! The request ring: how it is made with its two ends, and closed with them.
 ghost use Rattle.std.specs.Prelude.{◌≡◌, ◌≤◌, [], true, false, IfOk};
-ghost use Rattle.crossbeam_queue.specs.Passes.{view, IsPassOf, ruled_capacity};
+ghost use Rattle.crossbeam_queue.specs.Passes.{view, IsPassOf};
 ghost use Rattle.host_block.specs.Lists.{IsPrefix};
 ghost use Rattle.host_rings.specs.RequestViews.{request_view};
 ghost use Rattle.host_rings.specs.RequestEnds.{sender_of, taker_of};
