@@ -1,0 +1,9 @@
+pub mod AnswerLemmas
+pub mod AnsweredLemmas
+pub mod BeforeLemmas
+pub mod CarryLemmas
+pub mod Deciding
+pub mod GroupLemmas
+pub mod SessionLemmas
+pub mod TakingLemmas
+pub mod VerdictLemmas

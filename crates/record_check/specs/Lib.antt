@@ -1,0 +1,4 @@
+pub mod Asks
+pub mod Carried
+pub mod Counting
+pub mod Session
