@@ -1,5 +1,5 @@
 -- What a session reserves before it begins.
-use Rattle.std.specs.Prelude.{◌≡◌, ℕ, ◌+◌, ◌*◌, ◌≤◌, min, length, Option, Some, None}
+use Rattle.std.specs.Prelude.{◌≡◌, ℕ, ◌+◌, ◌*◌, ◌≤◌, min, [], length, Option, Some, None}
 use Rattle.blockhost.specs.Script.{shown_count}
 use Rattle.blockhost.specs.declared.script.ReadLine.{ReadLine}
 use Rattle.blockhost.specs.declared.script.ShortScript.{ShortScript}
@@ -12,10 +12,10 @@ most_steps (Some read) = min read.length 65536
 
 -- empty lists with room for what the script's session does and for one step after it, and a piece for the blocks to show
 pub record IsRoomFor (script : ShortScript) (size : ℕ) (room : Room) : Type 0 where
-  pub no_events : length room.history.log.items ≡ 0
+  pub no_events : room.history.log.items ≡ []
   pub events : 6 ≤ room.history.log.room
-  pub no_rows : length room.history.taken.items ≡ 0
+  pub no_rows : room.history.taken.items ≡ []
   pub rows : 1 ≤ room.history.taken.room
-  pub no_steps : length room.history.steps.items ≡ 0
+  pub no_steps : room.history.steps.items ≡ []
   pub steps : most_steps script.read + 1 ≤ room.history.steps.room
   pub shown : length room.shown ≡ shown_count script.show * size

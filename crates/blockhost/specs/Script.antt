@@ -133,9 +133,14 @@ pub record IsSmall (script : ShortScript) : Type 0 where
   pub pages : unwrap_or script.attach 0 ≤ 4096
   pub shown : shown_count script.show ≤ 4096
 
+-- the text is short, and is this script
+pub record IsScriptOf (text : List ℕ) (script : ShortScript) : Type 0 where
+  pub short : length text ≤ 4096
+  pub is : short_script text ≡ Some script
+
 -- What reading a script gives. Where there is a script all that was left is its text. Where there is none for want of
 -- form, what was left is longer than a script may be, or is all of it and has no such form.
 pub record GivesScript (left new_left : List ℕ) (result : Result ShortScript Refusal) : Type 0 where
-  pub is : IfOk result (λ script. short_script left ≡ Some script)
+  pub is : IfOk result (IsScriptOf left)
   pub whole : (result ≢ Err Script) → (result ≢ Err NotBuilt) → new_left ≡ []
   pub not_built : result ≡ Err NotBuilt → IsTooLong left new_left ⊎ ((new_left ≡ []) × (short_script left ≡ None))

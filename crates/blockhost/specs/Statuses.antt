@@ -1,6 +1,8 @@
 -- How a run ends.
-use Rattle.std.specs.Prelude.{◌≡◌, ◌≢◌, ℕ, Bool, true, false, List, [], Option, Some, None, IsSome}
+use Rattle.std.specs.Prelude.{◌≡◌, ℕ, Bool, true, false, List, [], Option, Some, None, IsSome}
+use Rattle.blockhost.specs.Refusals.{refused_status}
 use Rattle.blockhost.specs.Script.{IsReadOut}
+use Rattle.blockhost.specs.declared.refusal.Refusal.{Refusal}
 use Rattle.host_report.specs.declared.closing.Closing.{Closing}
 use Rattle.host_report.specs.declared.closing.Closing.TheVariants.{Good, Fault, Cut, NoMemory}
 use Rattle.host_report.specs.declared.report.Report.{Report}
@@ -32,9 +34,9 @@ played_status Fault was_written = ClosingFault
 played_status NoMemory was_written = OutOfMemory
 
 -- A report comes with the statuses 0, 1 and 7, with 8 just where the closing flush was refused memory, and with no other;
--- status 1 comes just where the closing flush failed.
+-- status 1 comes just where the closing flush failed. Without a report the status is that of a refusal: 5, 6, 8 or 11.
 abbrev pub HasReport : RunStatus → Option Report → Type 0
-HasReport status None = (status ≢ Done) × (status ≢ ClosingFault) × (status ≢ SinkFault)
+HasReport status None = (refusal : Refusal) × (status ≡ refused_status refusal)
 HasReport status (Some report) = (was_written : Bool) × (status ≡ played_status report.closing was_written)
 
 -- What a status says of the reading of the script: but for 6, 8 without a report, and 11 for the words, it was read to its

@@ -1,13 +1,14 @@
 //! The copy of an image in memory that a dry run plays on.
-ghost use Rattle.std.specs.Prelude.{◌≡◌, IsTrue};
-ghost use Rattle.host_io.specs.MemDisk.{counts_of, never_fails_of, shape_of};
+ghost use Rattle.std.specs.Prelude.{◌≡◌, [], IsTrue};
+ghost use Rattle.host_io.specs.Flat.{image_of};
+ghost use Rattle.host_io.specs.MemDisk.{counts_of, never_fails_of, opening_of, shape_of, state_of};
 
 use crate::refusal::Refusal;
-use host_block::BlockSize;
+use host_block::{BlockSize, Bytes, Oom};
 use host_io::{Disk, MemDisk, copy_image};
 use std::alloc::Global;
 
-/// A disk in memory that never fails, and holds an image of so many blocks of this size.
+/// A disk in memory that never fails, and holds the image of so many blocks of this size that it was made with.
 #[derive(Drop)]
 pub struct DryCopy {
     pub disk: MemDisk,
@@ -17,14 +18,19 @@ pub struct DryCopy {
     ghost sized: { (shape_of disk).size ≡ size },
     ghost never_fails: { IsTrue (never_fails_of disk) },
     ghost has_not_failed: { (counts_of disk).faults ≡ 0 },
+    ghost durable: { (state_of disk).durable ≡ image_of size (opening_of disk) },
+    ghost nothing_waits: { (state_of disk).pending ≡ [] },
 }
 
 impl DryCopy {
-    ghost use Rattle.std.specs.Prelude.{◌≡◌, ◌≢◌, ◌<◌, ◌≤◌, Err, IfOk, IsErrOf};
+    ghost use Rattle.std.specs.Prelude.{◌≡◌, ◌≢◌, ◌<◌, ◌≤◌, length, Err, IfOk, IsErrOf, IsTrue};
+    ghost use Rattle.host_block.specs.Disk.{block_at};
     ghost use Rattle.host_io.specs.Causes.{Rose};
     ghost use Rattle.host_io.specs.Copies.{bytes_of};
     ghost use Rattle.host_io.specs.Disks.{Attaches, OnlyReads};
+    ghost use Rattle.host_io.specs.Flat.{image_of};
     ghost use Rattle.host_io.specs.MemDisk.{opening_of};
+    ghost use Rattle.blockhost.specs.Dry.{Copies, IsSameCopy, image_in};
     ghost use Rattle.blockhost.specs.declared.refusal.Refusal.TheVariants.{Disk as DiskFailed, NotBuilt as TooManyBlocks};
     ghost use Rattle.blockhost.specs.Refusals.{IsOfDisk};
 
@@ -38,10 +44,12 @@ impl DryCopy {
         image: &str,
         size: BlockSize,
     ) -> Result<DryCopy, Refusal>
+        requires { 0 < size }
         ensures cause { IsOfDisk result }
         ensures fault { IsErrOf result DiskFailed → Rose (D.counts disk.old).faults (D.counts disk.new).faults }
         ensures counts { OnlyReads (D.counts disk.old) (D.counts disk.new) (D.never_fails disk.old) (D.never_fails disk.new) }
-        ensures not_built { IsErrOf result TooManyBlocks → 262144 < (D.shape disk.new).blocks }
+        ensures copied { IsTrue (D.shape disk.old).tells → Copies (D.image_named disk.old image.now size) result }
+        ensures size { IfOk result (λ dry. dry.size ≡ size) }
     {
         let blocks = DryCopy::attach(disk, image, size)?;
         let bytes = copy_image(alloc, disk, blocks, size)?;
@@ -55,7 +63,7 @@ impl DryCopy {
         ensures attaches { Attaches size (D.image_named disk.old image.now size) (D.shape disk.old) (D.shape disk.new) (D.state disk.new) result }
         ensures counts { OnlyReads (D.counts disk.old) (D.counts disk.new) (D.never_fails disk.old) (D.never_fails disk.new) }
         ensures few { IfOk result (λ blocks. blocks ≤ 262144) }
-        ensures not_built { IsErrOf result TooManyBlocks → 262144 < (D.shape disk.new).blocks }
+        ensures not_built { IsErrOf result TooManyBlocks → IsTrue (D.shape disk.old).tells → 262144 < length (D.image_named disk.old image.now size) }
     {
         let blocks = disk.attach_image(image, size, false)?;
         if blocks > DryCopy::BLOCK_LIMIT {
@@ -64,9 +72,33 @@ impl DryCopy {
         Ok(blocks)
     }
 
+    /// Block `b`.
+    pub fn read(&mut self, alloc: Global, b: u64) -> Result<Bytes, Oom>
+        requires { b < self.old.blocks }
+        ensures same { IsSameCopy self.old self.new }
+        ensures bytes { IfOk result (λ bytes. bytes ≡ block_at (image_in self.old) b) }
+        ensures length { IfOk result (λ bytes. length bytes ≡ self.old.size) }
+    {
+        let mut bytes = Bytes::zeroed(alloc, self.size.bytes())?;
+        match self.disk.read_block(b, bytes.as_mut_slice()) {
+            Ok(()) => Ok(bytes),
+            Err(_) => unreachable!("a copy in memory never fails"),
+        }
+    }
+
+    /// Makes what was written durable, which is nothing.
+    pub fn sync(&mut self)
+        ensures same { IsSameCopy self.old self.new }
+    {
+        match self.disk.sync() {
+            Ok(()) => (),
+            Err(_) => unreachable!("a copy in memory never fails"),
+        }
+    }
+
     // A disk that holds these bytes, attached.
     fn of_bytes(alloc: Global, bytes: Vec<u8>, size: BlockSize) -> DryCopy
-        ensures opening { opening_of result.disk ≡ bytes.items }
+        ensures image { image_in result ≡ image_of size bytes.items }
         ensures size { result.size ≡ size }
     {
         let mut disk = MemDisk::new(alloc, bytes, Vec::new(alloc));

@@ -5,6 +5,7 @@
 mod dry;
 mod outcome;
 mod outside;
+mod partition;
 mod played;
 mod put;
 mod refusal;

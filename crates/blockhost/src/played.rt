@@ -1,14 +1,20 @@
 //! The session of a run, and the closing flush after it.
-ghost use Rattle.std.specs.Prelude.{◌≡◌, ◌≢◌, ◌<◌, length, IsTrue, false};
-ghost use Rattle.host_io.specs.Causes.{Rose};
-ghost use Rattle.host_io.specs.Disks.{Calls};
+ghost use Rattle.std.specs.Prelude.{◌≡◌, ◌≢◌, [], ◌∷◌, false};
+ghost use Rattle.host_io.specs.MemDisk.{opening_of};
+ghost use Rattle.host_report.specs.Lawful.{closing_flush};
+ghost use Rattle.host_report.specs.Played.{IsPlayed};
 ghost use Rattle.host_report.specs.declared.closing.Closing.TheVariants.{Fault as ClosingFault};
+ghost use Rattle.blockhost.specs.Built.{IsServedStart};
+ghost use Rattle.blockhost.specs.Dry.{image_in};
+ghost use Rattle.blockhost.specs.Outcomes.{IsLawfulSoFar};
+ghost use Rattle.blockhost.specs.Plans.{plan_of};
 
 use crate::session::play;
 use crate::start::Start;
 use host_block::{Bytes, Op};
-use host_io::{Disk, DiskError, MemDisk};
-use host_model::{Step, Steps};
+use host_gpt::Which;
+use host_io::MemDisk;
+use host_model::Step;
 use host_record::Finish;
 use host_report::{Closing, Report, SessionReport};
 use std::alloc::Global;
@@ -26,23 +32,23 @@ const FRAMES: u32 = 4096;
 impl Start {
     /// Plays the session and makes the closing flush.
     pub fn play(self, alloc: Global) -> PlayedRun
-        ensures { result.report.closing ≢ ClosingFault }
+        requires { IsServedStart self }
+        ensures opening { opening_of result.dry ≡ opening_of self.dry.disk }
+        ensures played { IsPlayed (plan_of self.script ∷ []) result.report }
+        ensures lawful { IsLawfulSoFar (image_in self.dry) result.report }
+        ensures closing { result.report.closing ≢ ClosingFault }
     {
         let Start {
             script,
-            dry,
-            which,
+            mut dry,
             range,
             room,
             mut sessions,
             memory,
         } = self;
-        let blocks = dry.blocks;
-        let size = dry.size;
-        let mut disk = dry.disk;
-        let history = play(alloc, &script, range, size, &mut disk, room);
-        let mut steps = history.steps;
-        let closing = closing_flush(alloc, &mut disk, &mut steps);
+        let mut history = play(alloc, &script, range, &mut dry, room);
+        dry.sync();
+        history.steps.push(closing_step(alloc));
         sessions.push(SessionReport {
             number: 1,
             part: script.part,
@@ -54,40 +60,23 @@ impl Start {
         });
         PlayedRun {
             report: Report {
-                blocks,
-                size,
-                which,
+                blocks: dry.blocks,
+                size: dry.size,
+                which: Which::Primary,
                 sessions,
-                steps,
-                closing,
+                steps: history.steps,
+                closing: Closing::Good,
                 frames_home: FRAMES,
             },
-            dry: disk,
+            dry: dry.disk,
         }
-    }
-}
-
-// Makes what was written durable, as the last step of a run.
-fn closing_flush<D: Disk>(alloc: Global, disk: &mut D, steps: &mut Steps) -> Closing
-    requires room { length steps.old.items < steps.old.room }
-    ensures fault { result ≡ ClosingFault → Rose (D.counts disk.old).faults (D.counts disk.new).faults }
-    ensures healthy { IsTrue (D.never_fails disk.old) → (D.counts disk.new).faults ≡ (D.counts disk.old).faults }
-{
-    match disk.sync() {
-        Ok(()) => {
-            steps.push(closing_step(alloc, false));
-            Closing::Good
-        }
-        Err(DiskError::Failed) => {
-            steps.push(closing_step(alloc, true));
-            Closing::Fault
-        }
-        Err(DiskError::Oom) => Closing::NoMemory,
     }
 }
 
 // The step of a closing flush, which is of no session.
-fn closing_step(alloc: Global, faulted: bool) -> Step {
+fn closing_step(alloc: Global) -> Step
+    ensures { result ≡ closing_flush false }
+{
     Step {
         hand: 0,
         session: 0,
@@ -96,6 +85,6 @@ fn closing_step(alloc: Global, faulted: bool) -> Step {
         op: Op::Flush,
         block: 0,
         bytes: Bytes::empty(alloc),
-        faulted,
+        faulted: false,
     }
 }

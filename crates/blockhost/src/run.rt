@@ -1,5 +1,7 @@
 //! The top call.
 ghost use Rattle.std.specs.Prelude.{◌≡◌, ◌↔◌, ◌≢◌, map, false, Some, None, IsTrue, IsSome, IfSome, IfNone};
+ghost use Rattle.blockhost.specs.Built.{IsBuilt};
+ghost use Rattle.blockhost.specs.Outcomes.{IsLawfulOn, OpensAs, PlaysText};
 ghost use Rattle.host_io.specs.Causes.{Rose};
 ghost use Rattle.host_io.specs.Disks.{OnlyReads};
 ghost use Rattle.blockhost.specs.Refusals.{refusal_line, refused_status};
@@ -40,12 +42,25 @@ pub fn run<S: Source, D: Disk + Send, K: Sink, G: Gate + Sync>(
     ensures read_out { IsTrue (S.tells script.old) → ReadsOut (IsDryRun (map (λ w. w.now) words.now)) result.status result.report (S.left script.old) (S.left script.new) }
     ensures words { (IsDryRun (map (λ w. w.now) words.now) → ⊥) → result.status ≡ NotBuilt }
 
+    // What isn't built yet is told exactly, where script and disk tell.
+    ensures not_built { IsTrue (S.tells script.old) → IsTrue (D.shape disk).tells → result.status ≡ NotBuilt → ¬ IsBuilt (map (λ w. w.now) words.now) (S.left script.old) (λ name. D.image_named disk name 512) }
+    ensures built { IsTrue (S.tells script.old) → IsTrue (D.shape disk).tells → IsSome result.report → IsBuilt (map (λ w. w.now) words.now) (S.left script.old) (λ name. D.image_named disk name 512) }
+
     // The disk handed in was only read.
     ensures only_reads { OnlyReads (D.counts disk) (D.counts result.disk) (D.never_fails disk) (D.never_fails result.disk) }
 
     // Which statuses have a report, and what is put with it and without.
     ensures report { HasReport result.status result.report }
     ensures dry { IsSome result.dry ↔ IsSome result.report }
+
+    // What was played on: the image that the words name on the disk handed in, where that tells.
+    ensures opening { IsTrue (D.shape disk).tells → IfSome result.dry (OpensAs (map (λ w. w.now) words.now) (λ name. D.image_named disk name 512)) }
+
+    // The report is that of the script that was read, and lawful for that image.
+    ensures played { IsTrue (S.tells script.old) → IfSome result.report (PlaysText (S.left script.old)) }
+    ensures lawful { IsLawfulOn result.dry result.report }
+
+    // What was put.
     ensures text { IfSome result.report (λ report. PutsText (K.tells out.old) (K.appended out.old) (K.appended out.new) (K.faults out.old) (K.faults out.new) (report_text report false)) }
     ensures line { IfNone result.report (PutsText (K.tells out.old) (K.appended out.old) (K.appended out.new) (K.faults out.old) (K.faults out.new) (refusal_line result.status)) }
 {
@@ -79,7 +94,7 @@ fn report<D, K: Sink>(run: PlayedRun, disk: D, out: &mut K) -> Outcome<D>
     ensures status { HasReport result.status result.report }
     ensures sink_fault { result.status ≡ SinkFault → Rose (K.faults out.old) (K.faults out.new) }
     ensures disk { result.disk ≡ disk }
-    ensures dry { IsSome result.dry }
+    ensures dry { result.dry ≡ Some run.dry }
     ensures report { result.report ≡ Some run.report }
     ensures text { PutsText (K.tells out.old) (K.appended out.old) (K.appended out.new) (K.faults out.old) (K.faults out.new) (report_text run.report false) }
 {

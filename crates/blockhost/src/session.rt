@@ -6,5 +6,5 @@ mod play;
 mod serve;
 mod verdict;
 
-pub use history::{History, Room};
+pub use history::Room;
 pub use play::play;

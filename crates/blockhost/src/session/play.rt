@@ -1,44 +1,42 @@
 //! The client's side: the lines of a script, one after the other.
-ghost use Rattle.std.specs.Prelude.{◌≡◌, ◌+◌, ◌*◌, ◌^◌, ◌<◌, ◌≤◌, ◌∷◌, [], length, is_some, unwrap_or, IfSome, IsTrue, ◌↔◌};
-ghost use Rattle.host_io.specs.Disks.{OnlyReads};
-ghost use Rattle.blockhost.specs.Buffer.{pages_of, size_of};
+ghost use Rattle.std.specs.Prelude.{◌≡◌, ◌+◌, ◌*◌, ◌^◌, ◌<◌, ◌≤◌, [], ℕ, length, is_some, min, replicate, unwrap_or, if◌then◌else◌, IfSome};
+ghost use Rattle.host_model.specs.Verdict.{is_within};
+ghost use Rattle.blockhost.specs.Buffer.{bytes_of_pages, page_attached, page_in, pages_attached, pages_of, size_of};
+ghost use Rattle.blockhost.specs.Dry.{IsSameCopy, image_in};
 ghost use Rattle.blockhost.specs.Room.{IsRoomFor, most_steps};
 ghost use Rattle.blockhost.specs.Script.{IsSmall, shown_count};
-ghost use Rattle.blockhost.specs.Session.{GrowsBy, answer_bytes, attach_events, read_request, received_events, sent_events, with_more};
+ghost use Rattle.blockhost.specs.Serving.{HasPlayed, IsSent, Sends};
+ghost use Rattle.blockhost.specs.Session.{GrowsBy, answer_bytes, at_end, at_wait, attach_events, given_pages, is_shown, read_request, received_events, shown_events, with_more};
 
 use super::buffer::Buffer;
 use super::history::{History, Room};
 use super::serve::serve;
+use crate::dry::DryCopy;
 use crate::script::{ReadLine, ShortScript, ShowLine};
 use host_block::{BlockSize, Bytes, Range};
-use host_io::Disk;
 use host_model::{AttachError, Event, Events};
 use host_record::{Request, Response, Status};
 use std::alloc::Global;
 
 /// Plays the script on the partition of this range.
-pub fn play<D: Disk>(
+pub fn play(
     alloc: Global,
     script: &ShortScript,
     range: Range,
-    size: BlockSize,
-    disk: &mut D,
+    dry: &mut DryCopy,
     room: Room,
 ) -> History
     requires small { IsSmall script.now }
-    requires inside { range.first + range.count ≤ (D.shape disk.old).blocks }
+    requires inside { range.first + range.count ≤ dry.old.blocks }
     requires fits { range.first + range.count < 2 ^ 64 }
-    requires size { size ≡ (D.shape disk.old).size }
-    requires room { IsRoomFor script.now size room }
-    ensures shape { D.shape disk.new ≡ D.shape disk.old }
-    ensures state { D.state disk.new ≡ D.state disk.old }
-    ensures opening { D.opening disk.new ≡ D.opening disk.old }
-    ensures counts { OnlyReads (D.counts disk.old) (D.counts disk.new) (D.never_fails disk.old) (D.never_fails disk.new) }
+    requires room { IsRoomFor script.now dry.old.size room }
+    ensures same { IsSameCopy dry.old dry.new }
     ensures room { length result.steps.items < result.steps.room }
+    ensures played { HasPlayed (image_in dry.old) dry.old.size range script.now result }
 {
     let Room { mut history, shown } = room;
-    let mut buffer = attach(alloc, script.attach, size, &mut history.log);
-    let answer = send(alloc, disk, range, script.read, &mut buffer, &mut history);
+    let mut buffer = attach(alloc, script.attach, dry.size, &mut history.log);
+    let answer = send(alloc, dry, range, script.read, &mut buffer, &mut history);
     let (waited, drained) = split(answer, script.waits);
     receive(waited, &mut history.log);
     show(alloc, script.show, &buffer, shown, &mut history.log);
@@ -51,7 +49,9 @@ pub fn play<D: Disk>(
 fn attach(alloc: Global, pages: Option<u32>, size: BlockSize, log: &mut Events) -> Option<Buffer>
     requires few { unwrap_or pages 0 ≤ 4096 }
     requires room { length log.old.items < log.old.room }
+    ensures given { pages_attached result ≡ given_pages pages (is_some result) }
     ensures size { IfSome result (λ buffer. size_of buffer ≡ size) }
+    ensures zero { IfSome result (λ buffer. (j : ℕ) → j < pages_of buffer → page_in buffer j ≡ replicate size 0) }
     ensures log { log.new ≡ with_more log.old (attach_events pages (is_some result)) }
     ensures grows { GrowsBy log.old log.new 1 }
 {
@@ -71,38 +71,62 @@ fn attach(alloc: Global, pages: Option<u32>, size: BlockSize, log: &mut Events) 
     }
 }
 
-// Sends a read, which is taken and carried out, and gives its answer.
-fn send<D: Disk>(
+// Sends a read, if there is one, and gives its answer.
+fn send(
     alloc: Global,
-    disk: &mut D,
+    dry: &mut DryCopy,
     range: Range,
     line: Option<ReadLine>,
     buffer: &mut Option<Buffer>,
     history: &mut History,
 ) -> Option<[u8; 32]>
-    requires inside { range.first + range.count ≤ (D.shape disk.old).blocks }
+    requires inside { range.first + range.count ≤ dry.old.blocks }
     requires fits { range.first + range.count < 2 ^ 64 }
-    requires size { IfSome buffer.old (λ b. size_of b ≡ (D.shape disk.old).size) }
+    requires size { IfSome buffer.old (λ b. size_of b ≡ dry.old.size) }
     requires events { length history.old.log.items < history.old.log.room }
     requires rows { length history.old.taken.items < history.old.taken.room }
     requires steps { length history.old.steps.items + most_steps line ≤ history.old.steps.room }
-    ensures shape { D.shape disk.new ≡ D.shape disk.old }
-    ensures state { D.state disk.new ≡ D.state disk.old }
-    ensures opening { D.opening disk.new ≡ D.opening disk.old }
-    ensures counts { OnlyReads (D.counts disk.old) (D.counts disk.new) (D.never_fails disk.old) (D.never_fails disk.new) }
-    ensures log { history.new.log ≡ with_more history.old.log (sent_events line) }
+    ensures same { IsSameCopy dry.old dry.new }
+    ensures sent { Sends (image_in dry.old) range line history.old history.new buffer.old buffer.new result }
     ensures grows { GrowsBy history.old.log history.new.log 1 }
     ensures steps { GrowsBy history.old.steps history.new.steps (most_steps line) }
-    ensures size { IfSome buffer.new (λ b. size_of b ≡ (D.shape disk.old).size) }
+    ensures size { IfSome buffer.new (λ b. size_of b ≡ dry.old.size) }
 {
-    let request = request_of(line?);
+    match line {
+        Some(line) => Some(send_line(alloc, dry, range, line, buffer, history)),
+        None => None,
+    }
+}
+
+// Sends a read, which is taken and carried out, and gives its answer.
+fn send_line(
+    alloc: Global,
+    dry: &mut DryCopy,
+    range: Range,
+    line: ReadLine,
+    buffer: &mut Option<Buffer>,
+    history: &mut History,
+) -> [u8; 32]
+    requires inside { range.first + range.count ≤ dry.old.blocks }
+    requires fits { range.first + range.count < 2 ^ 64 }
+    requires size { IfSome buffer.old (λ b. size_of b ≡ dry.old.size) }
+    requires events { length history.old.log.items < history.old.log.room }
+    requires rows { length history.old.taken.items < history.old.taken.room }
+    requires steps { length history.old.steps.items + min line.length 65536 ≤ history.old.steps.room }
+    ensures same { IsSameCopy dry.old dry.new }
+    ensures sent { IsSent (image_in dry.old) range line history.old history.new buffer.old buffer.new result }
+    ensures grows { GrowsBy history.old.log history.new.log 1 }
+    ensures steps { GrowsBy history.old.steps history.new.steps (min line.length 65536) }
+    ensures size { IfSome buffer.new (λ b. size_of b ≡ dry.old.size) }
+{
+    let request = request_of(line);
     history.log.push(Event::Sent {
         index: 0,
         bytes: request.to_bytes(),
     });
-    let row = serve(alloc, disk, range, &request, buffer, &mut history.steps);
+    let row = serve(alloc, dry, range, &request, buffer, &mut history.steps);
     history.taken.push(row);
-    Some(answer_of(&request, row.outcome))
+    answer_of(&request, row.outcome)
 }
 
 // The record of a line `read`.
@@ -134,7 +158,10 @@ fn answer_of(request: &Request, outcome: Status) -> [u8; 32]
 }
 
 // The answer that is received at a `wait`, and the one at the end.
-fn split(answer: Option<[u8; 32]>, waits: bool) -> (Option<[u8; 32]>, Option<[u8; 32]>) {
+fn split(answer: Option<[u8; 32]>, waits: bool) -> (Option<[u8; 32]>, Option<[u8; 32]>)
+    ensures waited { result.0 ≡ at_wait waits answer }
+    ensures drained { result.1 ≡ at_end waits answer }
+{
     if waits {
         (answer, None)
     } else {
@@ -163,6 +190,7 @@ fn show(
 )
     requires room { length log.old.items < log.old.room }
     requires into { IfSome buffer.now (λ b. length into ≡ shown_count line * size_of b) }
+    ensures log { log.new ≡ with_more log.old (shown_events (pages_attached buffer.now) (page_attached buffer.now) line) }
     ensures grows { GrowsBy log.old log.new 1 }
 {
     let Some(line) = line else {
@@ -181,6 +209,8 @@ fn show(
 // Whether the buffer has these blocks, and their bytes; no bytes where it hasn't.
 fn shown(alloc: Global, line: ShowLine, buffer: &Option<Buffer>, into: Bytes) -> (bool, Bytes)
     requires { IfSome buffer.now (λ b. length into ≡ line.count * size_of b) }
+    ensures done { result.0 ≡ is_shown (pages_attached buffer.now) line }
+    ensures bytes { result.1 ≡ (if is_shown (pages_attached buffer.now) line then bytes_of_pages (page_attached buffer.now) line.block line.count else []) }
 {
     let mut into = into;
     match buffer {
@@ -195,7 +225,7 @@ fn shown(alloc: Global, line: ShowLine, buffer: &Option<Buffer>, into: Bytes) ->
 
 // Whether these blocks lie among so many pages.
 fn has_blocks(pages: u32, block: u32, count: u32) -> bool
-    ensures { IsTrue result ↔ (block + count ≤ pages) }
+    ensures { result ≡ is_within block count pages }
 {
     count <= pages && block <= pages - count
 }
