@@ -1,6 +1,8 @@
 //! Pages as a buffer keeps them.
-ghost use Rattle.std.specs.Prelude.{◌≡◌, ◌+◌, ◌<◌, [], length, replicate, slice_index_or, slice_set, MatchResult, IfOk};
-ghost use Rattle.host_frames.specs.Seats.{seat_pool, pages_pool, pool_id, page_size, contents, given_back};
+ghost use Rattle.std.specs.Prelude.{◌≡◌, ◌+◌, ◌<◌, [], ◌∷◌, length, replicate, slice_index_or, slice_set, MatchResult, IfOk};
+ghost use Rattle.host_frames.specs.Seats.{seat_pool, pages_pool, pool_id, page_size, frame_count, contents, claims, given_back};
+ghost use Rattle.host_frames.specs.declared.view.Claim.{Claim};
+ghost use Rattle.host_frames.specs.Claims.{IsRefused};
 
 use host_block::Oom;
 use host_frames::{NoFrames, Pages, Pool, PoolSeat};
@@ -24,6 +26,11 @@ impl Buffer {
         requires some { 0 < n }
         requires pool { seat_pool seat.old ≡ pool_id pool.now }
         ensures seat { seat_pool seat.new ≡ pool_id pool.now }
+        ensures claim { MatchResult result
+            (λ r. (c : Claim) × (claims seat.new ≡ c ∷ claims seat.old) × (c.asked ≡ n) × MatchResult r
+            (λ _. length c.won ≡ n)
+            (λ _. IsRefused (frame_count pool.now) c))
+            (λ _. claims seat.new ≡ claims seat.old) }
         ensures buffer { IfOk result (λ r. IfOk r (λ b. (pages_pool b.pages ≡ pool_id pool.now) × (contents b.pages ≡ replicate n (replicate (page_size pool.now) 0)))) }
     {
         let mut pages = Pages::with_room(alloc, n)?;

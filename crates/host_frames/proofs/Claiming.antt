@@ -1,9 +1,9 @@
 -- A claim from frame to frame, and its pages.
-use Rattle.std.proofs.Common.{◌≡◌, ◌≢◌, ℕ, ◌+◌, ◌-◌, ◌*◌, ◌/◌, ◌%◌, ◌^◌, ◌<◌, ◌≤◌, List, [], ◌∷◌, ◌++◌, length, map, reverse, sym, refl, ap, ap₂, subst, ◌∙◌, All, append-nil, length-append, bit_and, arith}
+use Rattle.std.proofs.Common.{◌≡◌, ℕ, ◌+◌, ◌-◌, ◌*◌, ◌/◌, ◌%◌, ◌^◌, ◌<◌, ◌≤◌, List, [], ◌∷◌, ◌++◌, length, map, reverse, sym, refl, ap, subst, ◌∙◌, All, append-nil, length-append, bit_and, arith}
 use Rattle.std.specs.Prelude.{Some, option_to_list}
 use Rattle.std.proofs.lemmas.List.{reverse-append, length-reverse, map-append, length-map}
-use Rattle.std.proofs.lemmas.List.Elements.{All-push, All-nil}
-use Rattle.atomic_table.specs.Table.{Me, rest}
+use Rattle.std.proofs.lemmas.List.Elements.{All-nil}
+use Rattle.atomic_table.specs.Table.{Me}
 use Rattle.std.proofs.lemmas.Nat.{one_shl}
 use Rattle.std.specs.Int.{bit_at}
 use Rattle.host_frames.specs.declared.view.View.{View}
@@ -11,10 +11,10 @@ use Rattle.host_frames.specs.declared.view.Claim.{Claim}
 use Rattle.host_frames.specs.declared.page.Page.{Page}
 use Rattle.host_frames.specs.Sums.{count, frames_in}
 use Rattle.host_frames.specs.Claims.{times_met}
-use Rattle.host_frames.specs.Views.{others, looks, wins, won_in, new_claim, asking_view, looking_view, winning_view, fetching_view, settled_view, reached_view, yielded_view, returned_view}
+use Rattle.host_frames.specs.Views.{others, looks, wins, won_in, new_claim, asking_view, looking_view, winning_view, fetching_view, settled_view}
 use Rattle.host_frames.specs.Homes.{IsBlankPage}
 use Rattle.host_frames.specs.Badges.{frames_of_pages}
-use Rattle.host_frames.specs.Moments.{IsIdle, IsNextToFetch, IsFetching, IsNextHome, HasClaimed, HasGoneOn, claiming_view, fetched_view, refusing_view, returning_view}
+use Rattle.host_frames.specs.Moments.{IsIdle, IsNextToFetch, IsFetching, HasClaimed, HasGoneOn, claiming_view, fetched_view}
 use Rattle.host_frames.proofs.Totals.{count_append}
 use Rattle.host_frames.proofs.Bits.{but, in_word, met_bits}
 
@@ -85,28 +85,6 @@ module _ {S : Type 0} where
 
   pub fetch_more : (v : View) (m m' : Me S View) (won won' fs fs' : List ℕ) (f : ℕ) → m ≡ (fetched_view v won fs, []) → won ≡ f ∷ won' → m' ≡ (settled_view (fetching_view m.0), []) → fs' ≡ f ∷ fs → m' ≡ (fetched_view v won' fs', [])
   fetch_more v m m' won won' fs fs' f e is d named = d ∙ ((λ i. (settled_view (fetching_view (e i).0), [])) ∙ ((λ i. (settled_view (fetching_view (fetched_view v (is i) fs)), [])) ∙ (λ i. (fetched_view v won' (sym named i), []))))
-
-  -- a claim that is taken back, frame by frame
-  pub undo_begins : (v : View) (m : Me S View) (fs : List ℕ) → m.0 ≡ v → v.slots_held ≡ [] → m.1 ≡ [] → length v.frames_out ≤ v.granted → fs ≡ v.frames_out → m ≡ (refusing_view v fs, [])
-  undo_begins v m fs same free none le is = (λ i. (same i, none i)) ∙ (λ i. (record v { frames_out = sym is i; granted = (let z : v.granted ≡ v.granted - length v.frames_out + length fs = (let l : length fs ≡ length v.frames_out = ap length is in omega arith) in z) i; slots_held = free i }, []))
-
-  pub undo_shelves : (v : View) (m : Me S View) (f : ℕ) (fs fs' : List ℕ) → m ≡ (refusing_view v fs, []) → fs ≡ f ∷ fs' → v.share ≡ 1 → IsNextHome f m
-  undo_shelves v m f fs fs' e is seat = (ap (λ z. z.0.share) e ∙ seat, subst (λ z. z ≡ f ∷ others z) (sym (ap (λ z. z.0.frames_out) e ∙ is)) refl, ap (λ z. z.0.slots_held) e, ap (λ z. z.1) e)
-
-  pub undone : (v : View) (m m1 m2 : Me S View) (f : ℕ) (fs fs' : List ℕ) (x : S) → m ≡ (refusing_view v fs, []) → fs ≡ f ∷ fs' → m1 ≡ (reached_view m.0, (f, x) ∷ []) → m2 ≡ (yielded_view m1.0, rest m1.1) → m2 ≡ (refusing_view v fs', [])
-  undone v m m1 m2 f fs fs' x a is b d = d ∙ ((λ i. (yielded_view (b i).0, rest (b i).1)) ∙ ((λ i. (yielded_view (reached_view (a i).0), [])) ∙ ((λ i. (yielded_view (reached_view (refusing_view v (is i))), []))
-      ∙ (λ i. (record v { frames_out = fs'; granted = (let z : v.granted - length v.frames_out + length (f ∷ fs') - 1 ≡ v.granted - length v.frames_out + length fs' = omega arith in z) i; slots_held = [] }, [])))))
-
-  -- pages that come home, frame by frame
-  pub gives_begin : (v : View) (m : Me S View) (fs : List ℕ) → m.0 ≡ v → v.slots_held ≡ [] → m.1 ≡ [] → fs ≡ v.frames_out → m ≡ (returning_view v fs, [])
-  gives_begin v m fs same free none is = (λ i. (same i, none i)) ∙ (λ i. (record v { frames_out = sym is i; given_back = (let z : v.given_back ≡ v.given_back + (length v.frames_out - length fs) = (let l : length fs ≡ length v.frames_out = ap length is in omega arith) in z) i; slots_held = free i }, []))
-
-  pub gives_shelves : (v : View) (m : Me S View) (f : ℕ) (fs fs' : List ℕ) → m ≡ (returning_view v fs, []) → fs ≡ f ∷ fs' → v.share ≡ 1 → IsNextHome f m
-  gives_shelves v m f fs fs' e is seat = (ap (λ z. z.0.share) e ∙ seat, subst (λ z. z ≡ f ∷ others z) (sym (ap (λ z. z.0.frames_out) e ∙ is)) refl, ap (λ z. z.0.slots_held) e, ap (λ z. z.1) e)
-
-  pub gave : (v : View) (m m1 m2 : Me S View) (f : ℕ) (fs fs' : List ℕ) (x : S) → length fs ≤ length v.frames_out → m ≡ (returning_view v fs, []) → fs ≡ f ∷ fs' → m1 ≡ (reached_view m.0, (f, x) ∷ []) → m2 ≡ (returned_view m1.0, rest m1.1) → m2 ≡ (returning_view v fs', [])
-  gave v m m1 m2 f fs fs' x le a is b d = let long : length fs ≡ length (f ∷ fs') = ap length is in d ∙ ((λ i. (returned_view (b i).0, rest (b i).1)) ∙ ((λ i. (returned_view (reached_view (a i).0), [])) ∙ ((λ i. (returned_view (reached_view (returning_view v (is i))), []))
-      ∙ (λ i. (record v { frames_out = fs'; given_back = (let z : v.given_back + (length v.frames_out - length (f ∷ fs')) + 1 ≡ v.given_back + (length v.frames_out - length fs') = omega arith in z) i; slots_held = [] }, [])))))
 
 -- a page that is popped, and those that are left
 pub named_pop : (all ps : List Page) (p : Page) → all ≡ ps ++ option_to_list (Some p) → frames_of_pages all ≡ p.frame ∷ frames_of_pages ps

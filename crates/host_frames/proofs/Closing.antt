@@ -5,7 +5,7 @@ use mathlib.Core.Logic.{dite}
 use native.Mathlib.Decide.{ℕ_discrete}
 use mathlib.Core.Option.{some, some-injective, some-ne-none}
 use lib.ListN.{get_elem?}
-use Rattle.atomic_table.specs.Table.{Me, Splits, opening, Final, Seen}
+use Rattle.atomic_table.specs.Table.{Me, Splits, opening}
 use Rattle.host_frames.specs.declared.rule.Opening.{Opening}
 use Rattle.host_frames.specs.declared.view.View.{View}
 use Rattle.host_frames.specs.declared.view.Claim.{Claim}
@@ -15,10 +15,10 @@ use Rattle.host_frames.specs.Claims.{asked_by, SomeIsRefused}
 use Rattle.host_frames.specs.Views.{first_view, view_after_making, new_seat_view, gathered_view, idle_view}
 use Rattle.host_frames.specs.Homes.{IsBlankPage, IsBlankSlot, pages_at_home}
 use Rattle.host_frames.specs.Moments.{IsIdle}
-use Rattle.host_frames.specs.Seats.{HasGathered, SomeSeatRefused, all_claims, claims, asked, granted, given_back}
+use Rattle.host_frames.specs.Seats.{HasGathered, StandsForAll, SomeSeatRefused, all_claims, claims, asked, granted, given_back}
 use Rattle.host_frames.proofs.Totals.{total_append}
 use Rattle.host_frames.proofs.Stepping as m
-use Rattle.host_frames.proofs.Seating.{opens, makes, ends}
+use Rattle.host_frames.proofs.Seating.{opens, makes}
 
 pub elem_of : {A : Type 0} (xs : List A) (i : ℕ) (d a : A) → i < length xs → get_or xs i d ≡ a → get_elem? xs i ≡ some a
 elem_of [] i d a lt e = absurd (omega arith)
@@ -31,9 +31,6 @@ opened k n ws xs zeros le len blank = subst (λ (z : List ℕ). m.K IsBlankPage 
 
 pub making : (k : Opening) (id : ℕ) (v : View) (n b : ℕ) → v ≡ idle_view (n + 1) b → Splits (m.K IsBlankPage k) id v (view_after_making v) (new_seat_view v)
 making k id v n b e = subst (λ (z : View). Splits (m.K IsBlankPage k) id z (view_after_making z) (new_seat_view z)) (sym e) (makes IsBlankPage k id n b)
-
-pub made : {S : Type 0} (old new : Me S View) (n left b : ℕ) → old ≡ (idle_view n b, []) → new ≡ (view_after_making old.0, old.1) → n - 1 ≡ left → new ≡ (idle_view left b, [])
-made old new n left b e d is = d ∙ ((λ i. (view_after_making (e i).0, (e i).1)) ∙ (λ i. (idle_view (is i) b, [])))
 
 module _ {S : Type 0} where
   pub gather_begins : (v : View) (m : Me S View) → m.0 ≡ v → IsIdle m → HasGathered v [] m
@@ -73,19 +70,25 @@ pub refused_all : (n : ℕ) (qs : List PoolSeat) (q : PoolSeat) → SomeSeatRefu
 refused_all n [] q p = ⊎_elim (λ t. t) (λ t. absurd t) p
 refused_all n (r ∷ qs) q p = subst (SomeIsRefused n) (sym (append_assoc (claims r) (all_claims qs) (claims q))) (⊎_elim (λ t. refused_left n (claims r) (all_claims qs ++ claims q) t) (λ t. refused_right n (claims r) (all_claims qs ++ claims q) (refused_all n qs q t)) p)
 
--- what the last seat tells, once it has taken in all others
-pub closing : (k : Opening) (qs all : List PoolSeat) (q : PoolSeat) (id : ℕ) (m' : Me (Option (Vec ℕ Global)) View) (ws : List ℕ) (xs : List (Option (Vec ℕ Global))) → all ≡ qs ++ q ∷ [] → length all ≡ k.seats → 1 ≤ k.seats → HasGathered q.seat.me.0 qs m' → length xs ≡ k.frames
-    → Final (Seen (m.K IsBlankPage k) id m'.0) ws xs → (pages_at_home xs + total granted all ≡ k.frames + total given_back all) × (SomeSeatRefused k.frames all → k.frames < total asked all)
-closing k qs all q id m' ws xs is count pos has len f = let v : View = m'.0 in
+-- what the last seat stands for, once it has taken in all others
+pub standing : {S : Type 0} (qs all : List PoolSeat) (q : PoolSeat) (m : Me S View) → all ≡ qs ++ q ∷ [] → HasGathered q.seat.me.0 qs m → StandsForAll all m
+standing qs all q m is has = let v : View = m.0 in let one = q.idle.0 in
     let long : length all ≡ length qs + 1 = ap length is ∙ (let l = length-append qs (q ∷ []) in omega arith) in
-    let parts : v.share ≡ length qs + 1 = ap (λ z. z.0.share) has in
-    let e = ends IsBlankPage k id v ws xs (omega arith) pos (ap (λ z. z.0.slots_held) has) (ap (λ z. z.0.to_fetch) has) len f in
+    let shares : v.share ≡ length qs + 1 = ap (λ z. z.0.share) has in
     let gots : v.granted ≡ total granted qs + granted q = ap (λ z. z.0.granted) has in let backs : v.given_back ≡ total given_back qs + given_back q = ap (λ z. z.0.given_back) has in let cs : v.claims ≡ all_claims qs ++ claims q = ap (λ z. z.0.claims) has in
     let g : total granted all ≡ total granted qs + (granted q + 0) = ap (total granted) is ∙ total_append granted qs (q ∷ []) in
     let b : total given_back all ≡ total given_back qs + (given_back q + 0) = ap (total given_back) is ∙ total_append given_back qs (q ∷ []) in
     let a : total asked all ≡ total asked qs + (asked q + 0) = ap (total asked) is ∙ total_append asked qs (q ∷ []) in
-    let sum : asked_by v.claims ≡ asked_by (all_claims qs) + asked q = ap asked_by cs ∙ asked_append (all_claims qs) (claims q) in let each = asked_all qs in
-    (let home = e.0 in omega arith, λ p. let lt = e.1 (subst (SomeIsRefused k.frames) (sym cs) (refused_all k.frames qs q (subst (SomeSeatRefused k.frames) is p))) in omega arith)
+    let sum : asked_by v.claims ≡ asked_by (all_claims qs) + asked q = ap asked_by cs ∙ asked_append (all_claims qs) (claims q) in let each = asked_all qs in (
+      omega arith,
+      omega arith,
+      omega arith,
+      omega arith,
+      (λ n p. subst (SomeIsRefused n) (sym cs) (refused_all n qs q (subst (SomeSeatRefused n) is p))),
+      ap (λ z. z.0.to_fetch) has,
+      ap (λ z. z.0.slots_held) has,
+      ap (λ z. z.1) has,
+    )
 
 -- one more slot is counted
 home_next : (xs : List (Option (Vec ℕ Global))) (i : ℕ) (o : Option (Vec ℕ Global)) → get_elem? xs i ≡ some o → pages_at_home (take (suc i) xs) ≡ pages_at_home (take i xs) + pages_at_home (o ∷ [])

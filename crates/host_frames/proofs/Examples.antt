@@ -1,12 +1,12 @@
 -- The definitions computed on small values: a pool of 70 frames, so of two words.
-use Rattle.std.proofs.Common.{◌≡◌, ◌<◌, ◌≤◌, ℕ, zero, suc, inl, inr, List, [], ◌∷◌, length, refl, ap, arith}
+use Rattle.std.proofs.Common.{◌≡◌, ℕ, zero, suc, inl, List, [], ◌∷◌, refl, arith}
 use Rattle.host_frames.specs.declared.view.View.{View}
 use Rattle.host_frames.specs.declared.view.Claim.{Claim}
 use Rattle.host_frames.specs.Sums.{total, count, claim_bit, frames_in}
-use Rattle.host_frames.specs.Claims.{won_by, taken_by, asked_by, times_met, Covers, IsRefused, SomeIsRefused}
+use Rattle.host_frames.specs.Claims.{won_by, taken_by, asked_by, Covers, SomeIsRefused}
 use Rattle.host_frames.specs.Views.{times_to_fetch, times_out, times_held, named_count, share_of, granted_of, won_in, idle_view, view_after_making, new_seat_view, asking_view, looking_view, winning_view, fetching_view, settled_view, packed_view, emptied_view, unpacked_view, reached_view, returned_view, gathered_view}
 use Rattle.host_frames.specs.Homes.{pages_at_home}
-use Rattle.std.specs.Prelude.{Option, Some, None}
+use Rattle.std.specs.Prelude.{Some, None}
 
 -- the frames 0, 2 and 65 are taken
 abbrev words : List ℕ

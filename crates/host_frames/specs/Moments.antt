@@ -1,5 +1,6 @@
 -- What a seat knows at a moment of a call.
-use Rattle.std.specs.Prelude.{◌≡◌, ℕ, ◌+◌, ◌-◌, ◌*◌, ◌/◌, ◌<◌, ◌≤◌, List, [], ◌∷◌, length, All}
+use Rattle.std.specs.Prelude.{◌≡◌, ℕ, ◌+◌, ◌-◌, ◌*◌, ◌/◌, ◌<◌, ◌≤◌, List, [], ◌∷◌, length, All, Option, Some, Vec}
+use Rattle.std.specs.declared.alloc.Global.{Global}
 use Rattle.std.specs.Int.{bit_at}
 use Rattle.atomic_table.specs.Table.{Me}
 use Rattle.host_frames.specs.declared.view.View.{View}
@@ -26,6 +27,10 @@ module _ {S : Type 0} where
   -- these frames were won, and their pages go to pages with those frames
   abbrev pub IsFetching : List ℕ → List ℕ → Me S View → Type 0
   IsFetching won fs m = (m.0.share ≡ 1) × (m.0.to_fetch ≡ won) × (m.0.frames_out ≡ fs) × (m.0.slots_held ≡ []) × (m.1 ≡ [])
+
+-- this frame's slot is out with the seat, with a blank page in it
+abbrev pub HasPut : ℕ → Me (Option (Vec ℕ Global)) View → Type 0
+HasPut frame m = (m.0.share ≡ 1) × (m.0.slots_held ≡ frame ∷ []) × (p : Vec ℕ Global) × (m.1 ≡ (frame, Some p) ∷ []) × IsBlankPage m.0.page_size p
 
 -- the seat has these frames still to fetch, and those pages
 abbrev pub fetched_view : View → List ℕ → List ℕ → View

@@ -75,6 +75,10 @@ abbrev pub all_claims : List PoolSeat → List Claim
 all_claims [] = []
 all_claims (q ∷ qs) = claims q ++ all_claims qs
 
+-- a seat stands for all these, with their claims and numbers
+abbrev pub StandsForAll : {S : Type 0} → List PoolSeat → Me S View → Type 0
+StandsForAll qs m = (m.0.share ≡ length qs) × (m.0.granted ≡ total granted qs) × (m.0.given_back ≡ total given_back qs) × (asked_by m.0.claims ≡ total asked qs) × ((n : ℕ) → SomeSeatRefused n qs → SomeIsRefused n m.0.claims) × (m.0.to_fetch ≡ []) × (m.0.slots_held ≡ []) × (m.1 ≡ [])
+
 -- a seat with the view v has taken in all these
 abbrev pub HasGathered : {S : Type 0} → View → List PoolSeat → Me S View → Type 0
 HasGathered v qs m = m ≡ (record { share = length qs + 1; page_size = v.page_size; granted = total granted qs + v.granted; given_back = total given_back qs + v.given_back; claims = all_claims qs ++ v.claims; to_fetch = []; frames_out = []; slots_held = [] }, [])

@@ -1,13 +1,13 @@
 //! A claim goes over the words of claim bits once.
-ghost use Rattle.std.specs.Prelude.{◌≡◌, ◌⊎◌, ℕ, ◌+◌, ◌-◌, ◌*◌, ◌<◌, ◌≤◌, [], ◌∷◌, length, replicate, MatchResult, vec_capacity, All};
+ghost use Rattle.std.specs.Prelude.{◌≡◌, ◌⊎◌, ℕ, ◌+◌, ◌-◌, ◌*◌, ◌/◌, ◌<◌, ◌≤◌, ◌↔◌, [], ◌∷◌, length, replicate, IsTrue, MatchResult, vec_len, vec_capacity, All};
 ghost use Rattle.host_frames.specs.declared.view.Claim.{Claim};
 ghost use Rattle.host_frames.specs.declared.view.View.{View};
 ghost use Rattle.host_frames.specs.Sums.{count, frames_in};
 ghost use Rattle.host_frames.specs.Claims.{times_met, Covers, IsRefused};
-ghost use Rattle.host_frames.specs.Views.{settled_view, fetching_view};
+ghost use Rattle.host_frames.specs.Views.{settled_view, fetching_view, yielded_view};
 ghost use Rattle.host_frames.specs.Homes.{IsBlankPage};
 ghost use Rattle.host_frames.specs.Badges.{IsInWords, frames_of_pages};
-ghost use Rattle.host_frames.specs.Moments.{IsIdle, IsNextToFetch, IsFetching, IsMaskBelow, IsPick, HasClaimed, HasGoneOn, HasMetWord, HasPages, fetched_view, refusing_view};
+ghost use Rattle.host_frames.specs.Moments.{IsIdle, IsNextToFetch, IsFetching, HasPut, IsMaskBelow, IsPick, HasClaimed, HasGoneOn, HasMetWord, HasPages, fetched_view, refusing_view};
 ghost use Rattle.host_frames.specs.Seats.{pool_id, seat_pool, pages_pool, page_size, frame_count, contents, room, claims, granted, given_back};
 
 use crate::no_frames::NoFrames;
@@ -34,7 +34,7 @@ impl Pool {
             (λ _. contents into.new ≡ []) }
     {
         self.win_frames(&mut seat.seat, n, &mut into.all);
-        if into.all.len() < n as usize {
+        if is_short(&into.all, n) {
             self.give_up(&mut seat.seat, &mut into.all);
             into.badge = Badge::blank();
             Err(NoFrames)
@@ -178,12 +178,32 @@ impl Pool {
     {
         while let Some(Page { frame, bytes }) = pages.pop() {
             self.put_page(seat, frame, bytes);
-            let rest = !(1u64 << (frame % 64));
-            self.table
-                .shared
-                .fetch_and::<GiveUp>(seat, (frame / 64) as usize, rest);
+            self.give_up_frame(seat, frame);
         }
     }
+
+    // Clears the bit of a frame whose page is in its slot again.
+    fn give_up_frame(&self, seat: &mut Seat<Option<Vec<u8>>, View>, frame: u32)
+        requires table { seat.old.table_id ≡ self.now.table.shared.table_id }
+        requires word { frame / 64 < self.now.table.shared.table_id.words }
+        requires granted { 1 ≤ seat.old.me.0.granted }
+        requires page { HasPut frame seat.old.me }
+        ensures same { (seat.new.table_id ≡ seat.old.table_id) × (seat.new.id ≡ seat.old.id) }
+        ensures home { seat.new.me ≡ (yielded_view seat.old.me.0, []) }
+    {
+        let rest = !(1u64 << (frame % 64));
+        self.table
+            .shared
+            .fetch_and::<GiveUp>(seat, (frame / 64) as usize, rest);
+    }
+}
+
+// Are there fewer pages than were asked for?
+fn is_short(pages: &Vec<Page>, n: u32) -> bool
+    ensures { IsTrue result ↔ (vec_len pages.now < n) }
+{
+    let asked = n as usize;
+    pages.len() < asked
 }
 
 // The lowest bits from `from` on that are clear in a word, at most `need` of them, and the bit where it stopped.

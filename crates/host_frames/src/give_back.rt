@@ -1,8 +1,9 @@
 //! Pages come home.
-ghost use Rattle.std.specs.Prelude.{◌≡◌, ◌+◌, [], ◌∷◌, length, Some, All};
-ghost use Rattle.host_frames.specs.Views.{reached_view};
+ghost use Rattle.std.specs.Prelude.{◌≡◌, ◌+◌, ◌/◌, ◌<◌, [], ◌∷◌, length, Some, All, vec_len};
+ghost use Rattle.host_frames.specs.Views.{reached_view, returned_view};
+ghost use Rattle.host_frames.specs.Homes.{IsBlankPage};
 ghost use Rattle.host_frames.specs.Badges.{IsInWords, frames_of_pages};
-ghost use Rattle.host_frames.specs.Moments.{IsNextHome, returning_view};
+ghost use Rattle.host_frames.specs.Moments.{IsNextHome, HasPut, returning_view};
 ghost use Rattle.host_frames.specs.Seats.{pool_id, seat_pool, pages_pool, contents, claims, granted, given_back};
 
 use crate::page::Page;
@@ -40,25 +41,45 @@ impl Pool {
         ensures given_back { seat.new.me ≡ (returning_view seat.old.me.0 [], []) }
     {
         while let Some(Page { frame, mut bytes }) = all.pop() {
-            bytes.fill(0);
+            clear(&mut bytes);
             self.put_page(seat, frame, bytes);
-            let rest = !(1u64 << (frame % 64));
-            self.table
-                .shared
-                .fetch_and::<BringHome>(seat, (frame / 64) as usize, rest);
+            self.bring_frame_home(seat, frame);
         }
     }
 
-    // Puts a page into its slot, which stays out with the seat.
+    // Clears the bit of a frame whose page is in its slot. The slot goes home by the same step.
+    fn bring_frame_home(&self, seat: &mut Seat<Option<Vec<u8>>, View>, frame: u32)
+        requires table { seat.old.table_id ≡ self.now.table.shared.table_id }
+        requires word { frame / 64 < self.now.table.shared.table_id.words }
+        requires page { HasPut frame seat.old.me }
+        ensures same { (seat.new.table_id ≡ seat.old.table_id) × (seat.new.id ≡ seat.old.id) }
+        ensures home { seat.new.me ≡ (returned_view seat.old.me.0, []) }
+    {
+        let rest = !(1u64 << (frame % 64));
+        self.table
+            .shared
+            .fetch_and::<BringHome>(seat, (frame / 64) as usize, rest);
+    }
+
+    // Puts a blank page into its slot, which stays out with the seat.
     pub(crate) fn put_page(&self, seat: &mut Seat<Option<Vec<u8>>, View>, frame: u32, page: Vec<u8>)
         requires table { seat.old.table_id ≡ self.now.table.shared.table_id }
         requires frame { IsNextHome frame seat.old.me }
+        requires blank { IsBlankPage seat.old.me.0.page_size page }
         ensures same { (seat.new.table_id ≡ seat.old.table_id) × (seat.new.id ≡ seat.old.id) }
         ensures put { seat.new.me ≡ (reached_view seat.old.me.0, (frame, Some page) ∷ []) }
+        ensures has_put { HasPut frame seat.new.me }
     {
         let shared = &self.table.shared;
         shared.load::<TakeSlot>(seat, 0);
         let nothing = shared.exchange(seat, frame as usize, Some(page));
         let None = nothing else { unreachable!() };
     }
+}
+
+// Makes each byte of a page zero.
+fn clear(page: &mut Vec<u8>)
+    ensures { IsBlankPage (vec_len page.old) page.new }
+{
+    page.fill(0);
 }

@@ -27,8 +27,9 @@ pub struct Pool {
 
 impl Pool {
     ghost use Rattle.host_frames.specs.Moments.{IsIdle};
+    ghost use Rattle.host_frames.specs.Claims.{SomeIsRefused, asked_by};
     ghost use Rattle.host_frames.specs.Views.{idle_view};
-    ghost use Rattle.host_frames.specs.Seats.{IsNewSeat, HasGathered, SomeSeatRefused, pool_id, seat_pool, page_size, frame_count, seat_count, asked, granted, given_back};
+    ghost use Rattle.host_frames.specs.Seats.{IsNewSeat, HasGathered, StandsForAll, SomeSeatRefused, pool_id, seat_pool, page_size, frame_count, seat_count, asked, granted, given_back};
 
     /// A pool of blank pages, with its seats. It has `Oom` for an answer only for want of memory.
     pub fn new(
@@ -84,19 +85,41 @@ impl Pool {
     }
 
     /// Ends the pool, and tells how many frames have their page at home.
-    pub fn close(self, mut seats: Vec<PoolSeat>) -> u32
+    pub fn close(self, seats: Vec<PoolSeat>) -> u32
         requires all { vec_len seats ≡ seat_count self }
         requires seats { All (λ q. seat_pool q ≡ pool_id self) seats.items }
         ensures home { result + total granted seats.items ≡ frame_count self + total given_back seats.items }
         ensures refused { SomeSeatRefused (frame_count self) seats.items → frame_count self < total asked seats.items }
     {
-        let PoolSeat { seat: mut base } = seats.pop().unwrap();
-        self.gather_seats(&mut base, seats);
+        let base = self.gather_all(seats);
+        self.close_with(base)
+    }
+
+    // Ends the pool with the seat that stands for all seats.
+    fn close_with(self, base: Seat<Option<Vec<u8>>, View>) -> u32
+        requires table { base.table_id ≡ self.table.shared.table_id }
+        requires all { base.me.0.share ≡ seat_count self }
+        requires idle { (base.me.0.to_fetch ≡ []) × (base.me.0.slots_held ≡ []) × (base.me.1 ≡ []) }
+        ensures home { result + base.me.0.granted ≡ frame_count self + base.me.0.given_back }
+        ensures refused { SomeIsRefused (frame_count self) base.me.0.claims → frame_count self < asked_by base.me.0.claims }
+    {
         let Pool { table, frames: _ } = self;
         let mut closed = table.close_with(base);
         let home = count_home(&mut closed);
         closed.free();
         home
+    }
+
+    // The last seat of the list, which stands for all.
+    fn gather_all(&self, mut seats: Vec<PoolSeat>) -> Seat<Option<Vec<u8>>, View>
+        requires some { 0 < vec_len seats }
+        requires seats { All (λ q. seat_pool q ≡ pool_id self.now) seats.items }
+        ensures table { result.table_id ≡ self.now.table.shared.table_id }
+        ensures gathered { StandsForAll seats.items result.me }
+    {
+        let PoolSeat { seat: mut base } = seats.pop().unwrap();
+        self.gather_seats(&mut base, seats);
+        base
     }
 
     // One seat takes in all others.

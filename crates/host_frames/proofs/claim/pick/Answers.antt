@@ -1,4 +1,4 @@
-use Rattle.std.proofs.Common.{arith, refl, sym, ap, ◌≡◌, ◌≢◌, ◌+◌, ◌<◌, ℕ, subst, length}
+use Rattle.std.proofs.Common.{arith, refl, sym, ap, ◌≢◌, ◌+◌, ◌<◌, ℕ, subst, length}
 use Rattle.host_frames.specs.Sums.{frames_in}
 use Rattle.host_frames.specs.Moments.{IsPick}
 use Rattle.host_frames.proofs.Bits.{none_set}

@@ -1,21 +1,19 @@
-use Rattle.std.proofs.Common.{arith, refl, ◌∙◌, ◌∷◌, ◌%◌, []}
+use Rattle.std.proofs.Common.{arith, ap, sym, ◌∙◌, ℕ, length, replicate}
 use Rattle.std.specs.Prelude.{Some}
-use Rattle.std.proofs.lemmas.Nat.{mod_below}
 use Rattle.std.proofs.lemmas.List.Elements.{All-pop}
 use Rattle.host_frames.specs.declared.page.Page.{Page}
-use Rattle.host_frames.specs.Views.{reached_view}
 use Rattle.host_frames.specs.Homes.{IsBlankPage}
-use Rattle.host_frames.specs.Badges.{IsInWords, frames_of_pages}
-use Rattle.host_frames.specs.Moments.{refusing_view}
-use Rattle.host_frames.proofs.TableCalls.{yielding}
-use Rattle.host_frames.proofs.Claiming.{named_pop, mask_of}
+use Rattle.host_frames.specs.Badges.{IsInWords}
+use Rattle.host_frames.proofs.Claiming.{named_pop}
 use Rattle.host_frames.proofs.pool.Pool.give_up.Goals as goal
 
-pub fetch_and-requires : goal.fetch_and-requires
-fetch_and-requires c = let b = c.args.self.now in let p : Page = c.in-Some.field-0 in let inv = c.loop-frame.invariant in let v = c.args.seat.now.me.0 in let named = named_pop c.loop-frame.pages.items c.pop.new.self.items p c.in-Some.ensures.items in let did = c.put_page.ensures in
-    let within = All-pop (IsInWords b.table.shared.table_id.words) c.loop-frame.pages.items c.pop.new.self.items (Some p) c.in-Some.ensures.items inv.0 in let blank = All-pop (λ (q : Page). IsBlankPage v.page_size q.bytes) c.loop-frame.pages.items c.pop.new.self.items (Some p) c.in-Some.ensures.items inv.5 in (
-      did.same.0 ∙ (inv.1 ∙ c.requires.table),
-      within.1,
-      yielding IsBlankPage b.table.shared.key _ _ _ v p.frame (frames_of_pages c.pop.new.self.items) p.bytes _ _
-          (did.put ∙ ((λ i. (reached_view (inv.4 i).0, (p.frame, Some p.bytes) ∷ [])) ∙ (λ i. (reached_view (refusing_view v (named i)), (p.frame, Some p.bytes) ∷ [])))) c.requires.seat.0 (b.slots ∙ b.counted) blank.1 refl (mask_of (p.frame % 64) (mod_below p.frame 64 (omega arith))),
-    )
+pub put_page-requires-clause-blank : goal.put_page-requires-clause-blank
+put_page-requires-clause-blank c = let p : Page = c.in-Some.field-0 in let inv = c.loop-frame.invariant in let size : ℕ = c.args.seat.now.me.0.page_size in
+    let blank = All-pop (λ (q : Page). IsBlankPage size q.bytes) c.loop-frame.pages.items c.pop.new.self.items (Some p) c.in-Some.ensures.items inv.5 in
+    blank.1 ∙ ap (λ (n : ℕ). replicate n 0) (sym (ap (λ z. z.0.page_size) inv.4))
+
+pub give_up_frame-requires-clause-word : goal.give_up_frame-requires-clause-word
+give_up_frame-requires-clause-word c = (All-pop (IsInWords c.args.self.now.table.shared.table_id.words) c.loop-frame.pages.items c.pop.new.self.items (Some c.in-Some.field-0) c.in-Some.ensures.items c.loop-frame.invariant.0).1
+
+pub give_up_frame-requires-clause-granted : goal.give_up_frame-requires-clause-granted
+give_up_frame-requires-clause-granted c = let named = ap length (named_pop c.loop-frame.pages.items c.pop.new.self.items c.in-Some.field-0 c.in-Some.ensures.items) in let was = ap (λ z. z.0.granted) c.loop-frame.invariant.4 in let now = ap (λ z. z.0.granted) c.put_page.ensures.put in omega arith

@@ -1,5 +1,5 @@
-use Rattle.std.proofs.Common.{arith, ap, refl, sym, ◌≡◌, ◌<◌, ◌≤◌, ◌∙◌, ℕ, subst, length, bit_and, All}
-use Rattle.std.specs.Int.{bit_at, bit_not, w64}
+use Rattle.std.proofs.Common.{arith, ap, sym, ◌∙◌, ℕ, subst, All}
+use Rattle.std.specs.Int.{bit_not, w64}
 use Rattle.std.proofs.lemmas.Nat.Bits.{bit_at-lt, bit_at_and}
 use Rattle.host_frames.specs.declared.page.Page.{Page}
 use Rattle.host_frames.specs.Views.{wins}

@@ -1,9 +1,7 @@
-use Rattle.std.proofs.Common.{arith, ap, refl, sym, ◌≡◌, ◌<◌, ◌/◌, ◌∙◌, ℕ, inl, inr, ⊎_elim, subst, length, All}
+use Rattle.std.proofs.Common.{arith, refl, sym, ◌/◌, ◌∙◌, ℕ, inl, inr, ⊎_elim, subst, All}
 use mathlib.Core.Logic.{dite}
 use native.Mathlib.Decide.{ℕ_discrete}
 use Rattle.std.proofs.lemmas.List.Elements.{All-nil}
-use Rattle.host_frames.specs.declared.view.Claim.{Claim}
-use Rattle.host_frames.specs.Claims.{times_met}
 use Rattle.host_frames.specs.Views.{new_claim}
 use Rattle.host_frames.specs.Homes.{IsBlankPage}
 use Rattle.host_frames.specs.Badges.{IsInWords}
