@@ -1,0 +1,4 @@
+pub mod EntryLemmas
+pub mod PlaceLemmas
+pub mod SessionLemmas
+pub mod ToldLemmas

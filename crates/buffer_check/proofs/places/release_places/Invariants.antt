@@ -1,0 +1,7 @@
+use Rattle.std.proofs.Common.{◌≡◌, take}
+use Rattle.host_model.specs.Releases.{is_release_of}
+use Rattle.host_model.specs.Lists.{places}
+use Rattle.buffer_check.proofs.places.release_places.Given as goal
+
+abbrev pub invariant-loop-i : goal.invariant-loop-i
+invariant-loop-i l = l.list.items ≡ places (is_release_of l.v) (take l.i l.history)
