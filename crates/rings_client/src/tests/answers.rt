@@ -1,10 +1,12 @@
 //! Eight threads answer, and another takes.
 ghost use Rattle.std.specs.Prelude.{◌≡◌, ◌≤◌};
-ghost use Rattle.host_rings.specs.AnswerEnds.{SlipTakerState, AreAllOf};
+ghost use Rattle.host_rings.specs.AnswerEnds.{SlipTakerState};
+ghost use Rattle.rings_client.specs.Hands.{AreAllHands};
 
 use crate::sending::wait_a_little;
+use crate::{Hand, close_hands, hand_out};
 use host_block::Oom;
-use host_rings::{Slip, SlipSender, SlipTaker, answer_ring, close_answers};
+use host_rings::{Slip, SlipSender, SlipTaker, answer_ring};
 use std::alloc::Global;
 use std::sync::Wait;
 use std::thread;
@@ -36,28 +38,25 @@ fn answer_one<R: Wait>(rt: &R, sender: &mut SlipSender, slip: Slip)
     }
 }
 
-fn answer_each<R: Wait>(rt: &R, sender: &mut SlipSender, hand: u8)
-    ensures { (sender.new.ring ≡ sender.old.ring) × (sender.new.number ≡ sender.old.number) }
+fn answer_each<R: Wait>(rt: &R, hand: &mut Hand, name: u8)
+    ensures { (hand.new.sender.ring ≡ hand.old.sender.ring) × (hand.new.sender.number ≡ hand.old.sender.number) }
 {
     for index in 0..EACH {
-        answer_one(rt, sender, slip(index, hand));
+        answer_one(rt, &mut hand.sender, slip(index, name));
     }
 }
 
-// Each sender pushes in a thread of its own.
-fn answer_together<R: Threads + Wait + Sync>(
-    rt: &R,
-    mut senders: Vec<SlipSender>,
-) -> Vec<SlipSender>
-    ensures { (t : SlipTakerState) → AreAllOf t senders.items → AreAllOf t result.items }
+// Each hand pushes in a thread of its own.
+fn answer_together<R: Threads + Wait + Sync>(rt: &R, mut hands: Vec<Hand>) -> Vec<Hand>
+    ensures { (t : SlipTakerState) → AreAllHands t hands.items → AreAllHands t result.items }
 {
     thread::for_each_mut(
         rt,
-        senders.as_mut_slice(),
+        hands.as_mut_slice(),
         HANDS as usize,
-        &|hand, sender| { answer_each(rt, sender, (hand % 8) as u8) },
+        &|i, hand| { answer_each(rt, hand, (i % 8) as u8) },
     );
-    senders
+    hands
 }
 
 // Asks until there is one.
@@ -102,19 +101,23 @@ fn gather_answers<R: Threads + Wait + Sync>(
     requires { (1 ≤ depth) × (depth ≤ 128) }
 {
     let (senders, taker) = answer_ring(alloc, depth, HANDS)?;
+    let hands = hand_out(alloc, senders)?;
+    let Ok(room) = Vec::with_capacity(alloc, HANDS as usize) else {
+        return Err(Oom);
+    };
     let Ok(next) = Vec::from_array(alloc, [0u32; 8]) else {
         return Err(Oom);
     };
-    let (senders, (taker, next)) = thread::join(
+    let (hands, (taker, next)) = thread::join(
         rt,
-        move || -> Vec<SlipSender>
-            ensures { (t : SlipTakerState) → AreAllOf t senders.items → AreAllOf t result.items }
-        { answer_together(rt, senders) },
+        move || -> Vec<Hand>
+            ensures { (t : SlipTakerState) → AreAllHands t hands.items → AreAllHands t result.items }
+        { answer_together(rt, hands) },
         move || -> (SlipTaker, Vec<u32>)
             ensures { (result.0.ring ≡ taker.ring) × (result.0.senders ≡ taker.senders) }
         { receive_all(rt, taker, next) },
     );
-    close_answers(senders, taker);
+    close_hands(hands, taker, room);
     Ok(next)
 }
 

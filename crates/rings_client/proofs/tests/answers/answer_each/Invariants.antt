@@ -3,6 +3,6 @@ use Rattle.rings_client.proofs.tests.answers.answer_each.Given as goal
 
 abbrev pub invariant-loop-index : goal.invariant-loop-index
 invariant-loop-index g l = record {
-  ring : l.sender.ring ≡ l.initial.sender.ring;
-  number : l.sender.number ≡ l.initial.sender.number;
+  ring : l.hand.sender.ring ≡ l.initial.hand.sender.ring;
+  number : l.hand.sender.number ≡ l.initial.hand.sender.number;
 }
