@@ -4,7 +4,7 @@ use Rattle.host_record.specs.declared.status.Status.{Status}
 use Rattle.host_record.specs.declared.status.Status.TheVariants.{Ok, NotSupported, NoMemory, InvalidArgs, OutOfRange, TooSmall, NotFound, Io}
 use Rattle.host_group.specs.Failures.{no_failure, failure_word, status_of, status_of_bits}
 
--- the failure_word of a failed status tells its index and its code
+-- the word of a failed status tells its index and its status
 word_status : (i c : ℕ) → 0 < c → c < 8 → 8 * i + 7 < no_failure → status_of (8 * i + c) ≡ status_of_bits c
 word_status i c pos lt small = let m : (8 * i + c) % 8 ≡ c = omega arith in ap (λ t. cond t Ok (status_of_bits ((8 * i + c) % 8))) (ne_eqb (8 * i + c) no_failure (λ e. omega arith)) ∙ ap status_of_bits m
 

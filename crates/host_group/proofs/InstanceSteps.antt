@@ -1,5 +1,5 @@
 -- What one step does to the words and the tally of one instance.
-use Rattle.std.proofs.Common.{◌≡◌, ◌≢◌, ℕ, zero, suc, ◌+◌, ◌-◌, ◌/◌, ◌%◌, ◌^◌, ◌<◌, refl, ap, arith}
+use Rattle.std.proofs.Common.{◌≡◌, ◌≢◌, ℕ, zero, suc, ◌+◌, ◌-◌, ◌/◌, ◌%◌, ◌^◌, ◌<◌, refl, ap, ◌∙◌, arith}
 use Rattle.std.specs.Prelude.{min, max, true, false}
 use Rattle.host_group.specs.declared.view.Member.{Member}
 use Rattle.host_group.specs.declared.view.Row.{Row}
@@ -8,11 +8,19 @@ use Rattle.host_record.specs.declared.status.Status.{Status}
 use Rattle.host_record.specs.declared.status.Status.TheVariants.{Ok}
 use Rattle.host_group.specs.declared.view.Progress.TheVariants.{Unsettled, Last, TookError, TookDeviceFront, TookMemoryFront, TookClosing, Ended, Passed}
 use Rattle.host_group.specs.Failures.{no_failure, failure_word}
-use Rattle.host_group.specs.Rule.{Cell, IsCurrent, IsOver}
+use Rattle.host_group.specs.Rule.{Cell, Folds, IsCurrent, IsOver}
 use Rattle.host_group.specs.Steps.{IsLast}
 use Rattle.host_group.specs.Tallies.{Tally, nothing, both, if_last, tally_of}
 use Rattle.host_group.specs.Views.{bit, name_of, fresh_row}
 use Rattle.host_group.proofs.Tallies.{Sound}
+
+-- the rule of a word that folds numbers: one more number is put in, while the word isn't taken out
+folds_put : {empty out word whole taken out' word' whole' taken' : ℕ} → Folds empty out word whole taken → out ≡ 0 → out' ≡ 0 → (word ≡ whole → word' ≡ whole') → Folds empty out' word' whole' taken'
+folds_put h in' still step = ((λ _. step (h.0 in')), λ e. absurd (omega arith))
+
+-- the word is taken out
+folds_take : {empty out word whole taken out' taken' : ℕ} → Folds empty out word whole taken → out ≡ 0 → out' ≡ 1 → taken' ≡ word → Folds empty out' empty whole taken'
+folds_take h in' gone same = ((λ e. absurd (omega arith)), λ e. (refl, same ∙ h.0 in'))
 
 abbrev pub being : Progress → Row → Row
 being p r = record r { progress = p }
@@ -22,12 +30,12 @@ module _ (c : Cell) (q name : ℕ) (r : Row) (R : Tally) (sound : Sound R) (unit
   With x = both (tally_of x) R
 
   pub put_error : (x : ℕ) (s : Status) → x ≡ failure_word r.member.index s → r.status ≡ Ok → IsCurrent c q name (With (being Unsettled r)) → IsCurrent record c { error = min c.error x } q name (With record (being Unsettled r) { status = s })
-  put_error x s word e h = let clear : failure_word r.member.index r.status ≡ no_failure = ap (failure_word r.member.index) e in let i = h.idle in let z0 = i (omega arith) in let z : R.ending ≡ 0 = omega arith in let t = sound.error in let l = h.error.0 in let u : min no_failure R.error ≡ R.error = ap (λ z. z.error) unit in record {
+  put_error x s word e h = let clear : failure_word r.member.index r.status ≡ no_failure = ap (failure_word r.member.index) e in let i = h.idle in let z0 = i (omega arith) in let z : R.ending ≡ 0 = omega arith in let t = sound.error in let u : min no_failure R.error ≡ R.error = ap (λ z. z.error) unit in record {
     left = h.left;
     few = h.few;
     many = h.many;
     single = h.single;
-    error = ((λ k. let w = l k in omega arith), λ k. absurd (omega arith));
+    error = folds_put h.error (omega arith) (omega arith) (λ w. omega arith);
     device_front = h.device_front;
     memory_front = h.memory_front;
     closing = h.closing;
@@ -41,13 +49,13 @@ module _ (c : Cell) (q name : ℕ) (r : Row) (R : Tally) (sound : Sound R) (unit
   }
 
   pub put_device_front : (x : ℕ) → r.device_front ≡ 0 → IsCurrent c q name (With (being Unsettled r)) → IsCurrent record c { device_front = max c.device_front x } q name (With record (being Unsettled r) { device_front = x })
-  put_device_front x e h = let i = h.idle in let z0 = i (omega arith) in let z : R.ending ≡ 0 = omega arith in let t = sound.device_front in let l = h.device_front.0 in record {
+  put_device_front x e h = let i = h.idle in let z0 = i (omega arith) in let z : R.ending ≡ 0 = omega arith in let t = sound.device_front in record {
     left = h.left;
     few = h.few;
     many = h.many;
     single = h.single;
     error = h.error;
-    device_front = ((λ k. let w = l k in omega arith), λ k. absurd (omega arith));
+    device_front = folds_put h.device_front (omega arith) (omega arith) (λ w. omega arith);
     memory_front = h.memory_front;
     closing = h.closing;
     due = h.due;
@@ -60,14 +68,14 @@ module _ (c : Cell) (q name : ℕ) (r : Row) (R : Tally) (sound : Sound R) (unit
   }
 
   pub put_memory_front : (x : ℕ) → r.memory_front ≡ 0 → IsCurrent c q name (With (being Unsettled r)) → IsCurrent record c { memory_front = max c.memory_front x } q name (With record (being Unsettled r) { memory_front = x })
-  put_memory_front x e h = let i = h.idle in let z0 = i (omega arith) in let z : R.ending ≡ 0 = omega arith in let t = sound.memory_front in let l = h.memory_front.0 in record {
+  put_memory_front x e h = let i = h.idle in let z0 = i (omega arith) in let z : R.ending ≡ 0 = omega arith in let t = sound.memory_front in record {
     left = h.left;
     few = h.few;
     many = h.many;
     single = h.single;
     error = h.error;
     device_front = h.device_front;
-    memory_front = ((λ k. let w = l k in omega arith), λ k. absurd (omega arith));
+    memory_front = folds_put h.memory_front (omega arith) (omega arith) (λ w. omega arith);
     closing = h.closing;
     due = h.due;
     idle = h.idle;
@@ -138,12 +146,12 @@ module _ (c : Cell) (q name : ℕ) (r : Row) (R : Tally) (sound : Sound R) (unit
       zero_or (suc n) f = absurd (f (λ e. omega arith))
 
   pub take_error : (n : ℕ) → n ≡ c.error → IsCurrent c q name (With (being Last r)) → IsCurrent record c { error = no_failure } q name (With record (being TookError r) { end_error = n })
-  take_error n e h = let k = ends Last refl refl h in let a : R.error_out ≡ 0 = k.1 in let b : R.end_error ≡ 0 = k.5 in let w = h.error.0 (omega arith) in record {
+  take_error n e h = let k = ends Last refl refl h in let a : R.error_out ≡ 0 = k.1 in let b : R.end_error ≡ 0 = k.5 in record {
     left = h.left;
     few = h.few;
     many = h.many;
     single = h.single;
-    error = ((λ x. absurd (omega arith)), λ x. (refl, omega arith));
+    error = folds_take h.error (omega arith) (omega arith) (omega arith);
     device_front = h.device_front;
     memory_front = h.memory_front;
     closing = h.closing;
@@ -157,13 +165,13 @@ module _ (c : Cell) (q name : ℕ) (r : Row) (R : Tally) (sound : Sound R) (unit
   }
 
   pub take_device_front : (n : ℕ) → n ≡ c.device_front → IsCurrent c q name (With (being TookError r)) → IsCurrent record c { device_front = 0 } q name (With record (being TookDeviceFront r) { end_device_front = n })
-  take_device_front n e h = let k = ends TookError refl refl h in let a : R.device_front_out ≡ 0 = k.2 in let b : R.end_device_front ≡ 0 = k.6 in let w = h.device_front.0 (omega arith) in record {
+  take_device_front n e h = let k = ends TookError refl refl h in let a : R.device_front_out ≡ 0 = k.2 in let b : R.end_device_front ≡ 0 = k.6 in record {
     left = h.left;
     few = h.few;
     many = h.many;
     single = h.single;
     error = h.error;
-    device_front = ((λ x. absurd (omega arith)), λ x. (refl, omega arith));
+    device_front = folds_take h.device_front (omega arith) (omega arith) (omega arith);
     memory_front = h.memory_front;
     closing = h.closing;
     due = h.due;
@@ -176,14 +184,14 @@ module _ (c : Cell) (q name : ℕ) (r : Row) (R : Tally) (sound : Sound R) (unit
   }
 
   pub take_memory_front : (n : ℕ) → n ≡ c.memory_front → IsCurrent c q name (With (being TookDeviceFront r)) → IsCurrent record c { memory_front = 0 } q name (With record (being TookMemoryFront r) { end_memory_front = n })
-  take_memory_front n e h = let k = ends TookDeviceFront refl refl h in let a : R.memory_front_out ≡ 0 = k.3 in let b : R.end_memory_front ≡ 0 = k.7 in let w = h.memory_front.0 (omega arith) in record {
+  take_memory_front n e h = let k = ends TookDeviceFront refl refl h in let a : R.memory_front_out ≡ 0 = k.3 in let b : R.end_memory_front ≡ 0 = k.7 in record {
     left = h.left;
     few = h.few;
     many = h.many;
     single = h.single;
     error = h.error;
     device_front = h.device_front;
-    memory_front = ((λ x. absurd (omega arith)), λ x. (refl, omega arith));
+    memory_front = folds_take h.memory_front (omega arith) (omega arith) (omega arith);
     closing = h.closing;
     due = h.due;
     idle = h.idle;
@@ -195,7 +203,7 @@ module _ (c : Cell) (q name : ℕ) (r : Row) (R : Tally) (sound : Sound R) (unit
   }
 
   pub take_closing : (n : ℕ) → n ≡ c.closing → IsCurrent c q name (With (being TookMemoryFront r)) → IsCurrent record c { closing = 0 } q name (With record (being TookClosing r) { end_closing = n })
-  take_closing n e h = let k = ends TookMemoryFront refl refl h in let a : R.closing_out ≡ 0 = k.4 in let b : R.end_closing ≡ 0 = k.8 in let marked = k.10 in let w = (h.closing marked).0 (omega arith) in record {
+  take_closing n e h = let k = ends TookMemoryFront refl refl h in let a : R.closing_out ≡ 0 = k.4 in let b : R.end_closing ≡ 0 = k.8 in let marked = k.10 in record {
     left = h.left;
     few = h.few;
     many = h.many;
@@ -203,7 +211,7 @@ module _ (c : Cell) (q name : ℕ) (r : Row) (R : Tally) (sound : Sound R) (unit
     error = h.error;
     device_front = h.device_front;
     memory_front = h.memory_front;
-    closing = λ _. ((λ x. absurd (omega arith)), λ x. (refl, omega arith));
+    closing = λ m. folds_take (h.closing m) (omega arith) (omega arith) (omega arith);
     due = h.due;
     idle = h.idle;
     early = h.early;
@@ -298,9 +306,9 @@ module _ (c : Cell) (q name : ℕ) (t : Tally) where
           few = omega arith;
           many = omega arith;
           single = omega arith;
-          error = ((λ x. let w = h.error.0 (omega arith) in omega arith), λ x. absurd (omega arith));
-          device_front = ((λ x. let w = h.device_front.0 (omega arith) in omega arith), λ x. absurd (omega arith));
-          memory_front = ((λ x. let w = h.memory_front.0 (omega arith) in omega arith), λ x. absurd (omega arith));
+          error = folds_put h.error (omega arith) (omega arith) (λ w. omega arith);
+          device_front = folds_put h.device_front (omega arith) (omega arith) (λ w. omega arith);
+          memory_front = folds_put h.memory_front (omega arith) (omega arith) (λ w. omega arith);
           closing = λ x. absurd (omega arith);
           due = λ x. absurd (omega arith);
           idle = λ _. omega arith;
@@ -320,9 +328,9 @@ module _ (c : Cell) (q name : ℕ) (t : Tally) where
           few = omega arith;
           many = omega arith;
           single = omega arith;
-          error = ((λ x. let w = h.error.0 (omega arith) in omega arith), λ x. absurd (omega arith));
-          device_front = ((λ x. let w = h.device_front.0 (omega arith) in omega arith), λ x. absurd (omega arith));
-          memory_front = ((λ x. let w = h.memory_front.0 (omega arith) in omega arith), λ x. absurd (omega arith));
+          error = folds_put h.error (omega arith) (omega arith) (λ w. omega arith);
+          device_front = folds_put h.device_front (omega arith) (omega arith) (λ w. omega arith);
+          memory_front = folds_put h.memory_front (omega arith) (omega arith) (λ w. omega arith);
           closing = λ _. ((λ _. omega arith), λ x. absurd (omega arith));
           due = λ _ x. absurd (omega arith);
           idle = λ _. omega arith;

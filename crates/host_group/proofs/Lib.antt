@@ -1,3 +1,4 @@
+mod Examples
 pub mod Folds
 pub mod Tallies
 pub mod CellWords

@@ -91,6 +91,7 @@ impl PlainCells {
     ) -> Option<GroupEnd>
         requires { (g ≤ 7) × (0 < (plain_cell g self.old).unsettled) }
         ensures next { self.new.next ≡ self.old.next }
+        ensures unsettled { MatchOption result ((plain_cell g self.new).unsettled + 1 ≡ (plain_cell g self.old).unsettled) (λ _. (plain_cell g self.new).unsettled ≡ 0) }
         ensures end { (rows : List Row) (i : ℕ) (r : Row) → HasRows g self.old rows → IsWaiting rows i index r →
             MatchOption result (HasRows g self.new (set rows i (settled_row r status device_front memory_front)) × IsGoingOn (set rows i (settled_row r status device_front memory_front)))
             (λ e. HasRows g self.new [] × IsEnd (set rows i (settled_row r status device_front memory_front)) e) }

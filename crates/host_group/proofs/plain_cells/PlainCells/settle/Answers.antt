@@ -1,10 +1,10 @@
-use Rattle.std.proofs.Common.{◌≡◌, ◌⊎◌, ◌<◌, ap, sym, subst, ◌∙◌, arith}
+use Rattle.std.proofs.Common.{get_or, ◌≡◌, ◌⊎◌, ◌<◌, ap, sym, subst, ◌∙◌, arith}
 use Rattle.std.specs.Prelude.{false, set}
 use Rattle.host_group.specs.Failures.{failure_word}
 use Rattle.host_group.specs.declared.plain_cells.PlainCell.{PlainCell}
 use Rattle.host_group.specs.Ends.{IsEnd}
 use Rattle.host_group.specs.PlainRows.{empty_cell, plain_cell, settled_cell, cell_end, settled_row}
-use Rattle.host_group.proofs.PlainLemmas.{cell_here, goes_on, comes_to_end, rows_else}
+use Rattle.host_group.proofs.PlainLemmas.{cell_here, cell_own, goes_on, comes_to_end, rows_else}
 use Rattle.host_group.proofs.plain_cells.PlainCells.settle.Goals as goal
 
 pub returns-then-has_ended-clause-end : goal.returns-then-has_ended-clause-end
@@ -31,3 +31,13 @@ returns-then-has_ended-clause-others c h rows ne has = let eight = c.args.self.n
 pub returns-else-has_ended-clause-others : goal.returns-else-has_ended-clause-others
 returns-else-has_ended-clause-others c h rows ne has = let eight = c.args.self.now.eight in let small = c.requires.0 in let next = c.replace-else-has_ended.ensures.0 in let bound = has.bound in
     rows_else c.args.g h c.args.self.now c.replace-else-has_ended.new.self _ rows record { number = omega arith; cells = c.replace-else-has_ended.ensures.1; next = omega arith } (omega arith) ne has
+
+pub returns-then-has_ended-clause-unsettled : goal.returns-then-has_ended-clause-unsettled
+returns-then-has_ended-clause-unsettled c = let eight = c.args.self.now.eight in let small = c.requires.0 in
+    ap (λ (x : PlainCell). x.unsettled) (ap (λ l. get_or l c.args.g empty_cell) c.replace.ensures.1 ∙ cell_own c.args.self.now.cells c.args.g empty_cell (omega arith))
+
+pub returns-else-has_ended-clause-unsettled : goal.returns-else-has_ended-clause-unsettled
+returns-else-has_ended-clause-unsettled c = let eight = c.args.self.now.eight in let small = c.requires.0 in let some = c.requires.1 in
+    let here = cell_here c.args.self.now.cells c.args.g _ empty_cell (omega arith) in
+    let less = ap (λ (x : PlainCell). x.unsettled) (ap (λ l. get_or l c.args.g empty_cell) c.replace-else-has_ended.ensures.1 ∙ (cell_own c.args.self.now.cells c.args.g c.with_settled-cell.result (omega arith)
+    ∙ (c.with_settled-cell.ensures ∙ ap (λ x. settled_cell x c.failure_word-word.result c.args.device_front c.args.memory_front) here))) in omega arith
