@@ -1,0 +1,20 @@
+// What a cache holds of a block.
+use host_block::Bytes;
+
+/// How many blocks the list of a cache has at most.
+pub const ENTRIES: usize = 32;
+
+/// A block in the list.
+#[derive(Drop)]
+pub struct Line {
+    pub bytes: Bytes,
+    /// Whether the disk doesn't have these bytes yet.
+    pub dirty: bool,
+}
+
+/// A dirty block that left the list and isn't written yet.
+#[derive(Drop)]
+pub struct Victim {
+    pub block: u64,
+    pub bytes: Bytes,
+}
