@@ -1,0 +1,12 @@
+pub mod Examples
+pub mod FirstLine
+pub mod HexText
+pub mod Moved
+pub mod NamedLines
+pub mod Printed
+pub mod PrintedLines
+pub mod PrintedScript
+pub mod PrintedValues
+pub mod PrintedWords
+pub mod Said
+pub mod SaidScript

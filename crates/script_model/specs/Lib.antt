@@ -1,0 +1,17 @@
+pub mod Arguments
+pub mod Causes
+pub mod Draft
+pub mod Generate
+pub mod Keyword
+pub mod Laws
+pub mod Limit
+pub mod Lines
+pub mod Named
+pub mod Numbers
+pub mod Owed
+pub mod Planned
+pub mod Plans
+pub mod Print
+pub mod Script
+pub mod Steps
+pub mod Words
