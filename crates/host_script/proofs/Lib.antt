@@ -1,0 +1,5 @@
+pub mod Digits
+pub mod Generated
+pub mod NamedRecords
+pub mod Owed
+pub mod PrintedPlans
