@@ -28,7 +28,7 @@ use Rattle.blockhost.proofs.LogLemmas.{answer_list, log_with, received-after, re
 use Rattle.blockhost.proofs.TakenLemmas.{session_with}
 
 -- what some front of a list gives is a front of what the list gives
-filter_map-take : {A B : Type 0} (f : A → Option B) (xs : List A) (n : ℕ) → (j : ℕ) × (filter_map f (take n xs) ≡ take j (filter_map f xs))
+pub filter_map-take : {A B : Type 0} (f : A → Option B) (xs : List A) (n : ℕ) → (j : ℕ) × (filter_map f (take n xs) ≡ take j (filter_map f xs))
 filter_map-take f [] zero = (0, refl)
 filter_map-take f [] (suc n) = (0, refl)
 filter_map-take f (x ∷ xs) zero = (0, refl)
@@ -38,7 +38,7 @@ filter_map-take f (x ∷ xs) (suc n) = at (f x) (filter_map-take f xs n)
     at None rest = rest
     at (Some y) rest = (suc rest.0, ap (λ l. y ∷ l) rest.1)
 
-take-nil : {A : Type 0} (j : ℕ) → take {A = A} j [] ≡ []
+pub take-nil : {A : Type 0} (j : ℕ) → take {A = A} j [] ≡ []
 take-nil zero = refl
 take-nil (suc j) = refl
 

@@ -92,7 +92,7 @@ carried_row image range line made Accepted few =
       ends_so image from line.length made few ∙ ap (λ (l : List Ask). ended l (read_steps image from made)) (sym asks),
     )
 
-steps_of_first : (image : List (List ℕ)) (from made : ℕ) → steps_of 0 (read_steps image from made) ≡ read_steps image from made
+pub steps_of_first : (image : List (List ℕ)) (from made : ℕ) → steps_of 0 (read_steps image from made) ≡ read_steps image from made
 steps_of_first image from made = filter-all (λ (s : Step). s.index == 0) (read_steps image from made) (all_steps (λ (s : Step). s.index == 0) image from 0 made (λ k. refl))
 
 pub are_carried : (image : List (List ℕ)) (size : ℕ) (range : Range) (given : Option ℕ) (read : Option ReadLine) (made : ℕ) (log : List Event) (memory : List MemEvent)

@@ -1,7 +1,7 @@
 -- The log of a short script, event by event.
 use Rattle.std.proofs.Common.{◌≡◌, ℕ, Bool, true, false, not, ◌&&◌, List, [], ◌∷◌, ◌++◌, refl, sym, ◌∙◌, ap, append_assoc, append-nil, Option, Some, None}
 use Rattle.std.specs.Prelude.{filter, filter_map, map, slice_get, ◌==◌}
-use Rattle.std.specs.List.{cons_option, list_all}
+use Rattle.std.specs.List.{cons_option, list_all, list_any}
 use Rattle.std.proofs.Common.{cond}
 use Rattle.host_record.specs.Request.{request_bytes, request_of}
 use Rattle.host_record.specs.declared.request.Request.{Request}
@@ -11,6 +11,7 @@ use Rattle.host_model.specs.Taking.{is_end}
 use Rattle.host_model.specs.declared.event.Event.{Event}
 use Rattle.host_model.specs.declared.event.Event.TheVariants.{Drained}
 use Rattle.host_model.proofs.ListTests.{and-from, both}
+use Rattle.host_report.specs.Lawful.{is_short_of_frames}
 use Rattle.blockhost.specs.Session.{ReadsBack, attach_events, given_pages, pages_for, read_request, received_events, sent_events, shown_events}
 use Rattle.blockhost.specs.declared.script.ReadLine.{ReadLine}
 use Rattle.blockhost.specs.declared.script.ShowLine.{ShowLine}
@@ -51,6 +52,10 @@ sent-received (Some bytes) rest = refl
 sent-shown : (given : Option ℕ) (page : ℕ → List ℕ) (show : Option ShowLine) (rest : List Event) → sent (shown_events given page show ++ rest) ≡ sent rest
 sent-shown given page None rest = refl
 sent-shown given page (Some line) rest = refl
+
+-- before the read nothing is sent
+pub sent-none : (attach : Option ℕ) (b : Bool) → sent (attach_events attach b) ≡ []
+sent-none attach b = ap sent (sym (append-nil (attach_events attach b))) ∙ sent-attach attach b []
 
 -- after the read nothing is sent
 pub sent-after : (waited : Option (List ℕ)) (shown : Option ℕ) (page : ℕ → List ℕ) (show : Option ShowLine) (drained : Option (List ℕ))
@@ -227,3 +232,28 @@ pub received-then : (attach : Option ℕ) (b : Bool) (read : Option ReadLine) (w
 received-then attach b read waited =
     received-attach attach b _ ∙ received-sent read (received_events waited)
     ∙ ap received (sym (append-nil (received_events waited))) ∙ received-received waited [] ∙ append-nil (answer_list waited)
+
+-- ---- the pool
+
+short-attach : (p : Option ℕ) (b : Bool) (rest : List Event) → list_any is_short_of_frames (attach_events p b ++ rest) ≡ list_any is_short_of_frames rest
+short-attach None b rest = refl
+short-attach (Some p) true rest = refl
+short-attach (Some p) false rest = refl
+
+short-sent : (read : Option ReadLine) (rest : List Event) → list_any is_short_of_frames (sent_events read ++ rest) ≡ list_any is_short_of_frames rest
+short-sent None rest = refl
+short-sent (Some line) rest = refl
+
+short-received : (a : Option (List ℕ)) (rest : List Event) → list_any is_short_of_frames (received_events a ++ rest) ≡ list_any is_short_of_frames rest
+short-received None rest = refl
+short-received (Some bytes) rest = refl
+
+short-shown : (given : Option ℕ) (page : ℕ → List ℕ) (show : Option ShowLine) (rest : List Event) → list_any is_short_of_frames (shown_events given page show ++ rest) ≡ list_any is_short_of_frames rest
+short-shown given page None rest = refl
+short-shown given page (Some line) rest = refl
+
+-- no attach is refused for want of frames
+pub never_short : (attach : Option ℕ) (b : Bool) (read : Option ReadLine) (waited : Option (List ℕ)) (shown : Option ℕ) (page : ℕ → List ℕ) (show : Option ShowLine) (drained : Option (List ℕ))
+    → list_any is_short_of_frames (log_with attach b read waited shown page show drained) ≡ false
+never_short attach b read waited shown page show drained =
+    short-attach attach b _ ∙ short-sent read _ ∙ short-received waited _ ∙ short-shown shown page show _ ∙ short-received drained (Drained ∷ [])

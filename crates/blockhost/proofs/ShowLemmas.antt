@@ -48,7 +48,7 @@ not_accepted range line e =
     all_refused (not (nat_le 1 line.length && nat_le line.length 65536)) (not (is_within line.device_offset line.length range.count)) InvalidArgs OutOfRange NotFound e
 
 -- where steps were made the read is of the buffer that was given
-own_buffer : (range : Range) (given : Option ℕ) (line : ReadLine) (made : ℕ) → suc made ≤ most_made (read_verdict range given line) line.length → (1 == line.id) ≡ true
+pub own_buffer : (range : Range) (given : Option ℕ) (line : ReadLine) (made : ℕ) → suc made ≤ most_made (read_verdict range given line) line.length → (1 == line.id) ≡ true
 own_buffer range given line made few = by_verdict (read_verdict range given line) refl few
   where
     by_given : (g : Option ℕ) (b : Bool) → (1 == line.id) ≡ b → read_verdict range g line ≡ Accepted → (1 == line.id) ≡ true
@@ -94,7 +94,7 @@ agrees_itself : (b : Bool) → agrees b b ≡ true
 agrees_itself true = refl
 agrees_itself false = refl
 
-own_id : (given : Option ℕ) (show : ShowLine) → is_shown given show ≡ true → (1 == show.id) ≡ true
+pub own_id : (given : Option ℕ) (show : ShowLine) → is_shown given show ≡ true → (1 == show.id) ≡ true
 own_id None show done = absurd (cc done)
 own_id (Some pages) show done = at (1 == show.id) refl
   where
@@ -118,7 +118,8 @@ show_right s before given page show in_buffer same =
         (bytes_eq-Decides (bytes_of_pages page show.block show.count) (bytes_of_pages (page_shown s before show.id) show.block show.count)).1 all
     at false done = refl
 
-abbrev is_no_show : Event → Bool
+abbrev pub is_no_show : Event → Bool
+is_no_show (Filled v block count byte done) = false
 is_no_show (Shown v block count done bytes) = false
 is_no_show _ = true
 
@@ -132,7 +133,7 @@ show_free s before (Shown id block count done bytes) free = absurd (cc free)
 show_free s before Drained free = refl
 show_free s before Aborted free = refl
 
-no_shows : (attach : Option ℕ) (b : Bool) (read : Option ReadLine) (waited : Option (List ℕ)) → list_all is_no_show (attach_events attach b ++ (sent_events read ++ received_events waited)) ≡ true
+pub no_shows : (attach : Option ℕ) (b : Bool) (read : Option ReadLine) (waited : Option (List ℕ)) → list_all is_no_show (attach_events attach b ++ (sent_events read ++ received_events waited)) ≡ true
 no_shows attach b read waited = attached attach b _ (sent_free read _ (received_free waited))
   where
     attached : (attach : Option ℕ) (b : Bool) (rest : List Event) → list_all is_no_show rest ≡ true → list_all is_no_show (attach_events attach b ++ rest) ≡ true
@@ -148,7 +149,7 @@ no_shows attach b read waited = attached attach b _ (sent_free read _ (received_
     received_free None = refl
     received_free (Some bytes) = refl
 
-none_after : (drained : Option (List ℕ)) → list_all is_no_show (received_events drained ++ Drained ∷ []) ≡ true
+pub none_after : (drained : Option (List ℕ)) → list_all is_no_show (received_events drained ++ Drained ∷ []) ≡ true
 none_after None = refl
 none_after (Some bytes) = refl
 

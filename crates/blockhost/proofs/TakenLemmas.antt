@@ -63,7 +63,7 @@ shown_free : (given : Option ℕ) (page : ℕ → List ℕ) (show : Option ShowL
 shown_free given page None rest h = h
 shown_free given page (Some line) rest h = h
 
-attach_free : (read : Option ReadLine) (waited : Option (List ℕ)) (given : Option ℕ) (page : ℕ → List ℕ) (show : Option ShowLine) (drained : Option (List ℕ))
+pub attach_free : (read : Option ReadLine) (waited : Option (List ℕ)) (given : Option ℕ) (page : ℕ → List ℕ) (show : Option ShowLine) (drained : Option (List ℕ))
     → list_all (λ e. not (is_attach e)) (sent_events read ++ (received_events waited ++ (shown_events given page show ++ (received_events drained ++ Drained ∷ [])))) ≡ true
 attach_free read waited given page show drained =
     sent_free read _ (received_free waited _ (shown_free given page show _ (received_free drained (Drained ∷ []) refl)))

@@ -10,7 +10,7 @@ abbrev pub most_steps : Option ReadLine → ℕ
 most_steps None = 0
 most_steps (Some read) = min read.length 65536
 
--- empty lists with room for what the script's session does and for one step after it, and a piece for the blocks to show
+-- empty lists with room for what the script's session does, for its buffer's five other entries and for one step after it, and a piece for the blocks to show
 pub record IsRoomFor (script : ShortScript) (size : ℕ) (room : Room) : Type 0 where
   pub no_events : room.history.log.items ≡ []
   pub events : 6 ≤ room.history.log.room
@@ -18,4 +18,6 @@ pub record IsRoomFor (script : ShortScript) (size : ℕ) (room : Room) : Type 0 
   pub rows : 1 ≤ room.history.taken.room
   pub no_steps : room.history.steps.items ≡ []
   pub steps : most_steps script.read + 1 ≤ room.history.steps.room
+  pub no_memory : room.history.memory.items ≡ []
+  pub memory : most_steps script.read + 5 ≤ room.history.memory.room
   pub shown : length room.shown ≡ shown_count script.show * size

@@ -17,6 +17,10 @@ use Rattle.host_model.specs.Verdict.{is_within, judged}
 use Rattle.host_model.specs.declared.event.AttachError.TheVariants as attach
 use Rattle.host_model.specs.declared.event.Event.{Event}
 use Rattle.host_model.specs.declared.event.Event.TheVariants.{Attached, NotAttached, Sent, Received, Shown, Drained}
+use Rattle.host_model.specs.RecordEntries.{land_for}
+use Rattle.host_model.specs.declared.memory.MemEntry.{MemEntry}
+use Rattle.host_model.specs.declared.memory.MemEvent.{MemEvent}
+use Rattle.host_model.specs.declared.memory.MemEvent.TheVariants.{Attach, Show, Pin, Done, Release}
 use Rattle.host_model.specs.declared.row.TakenRow.{TakenRow}
 use Rattle.host_model.specs.declared.step.Step.{Step}
 use Rattle.host_model.specs.declared.verdict.Verdict.{Verdict}
@@ -137,6 +141,34 @@ shown_events given page (Some show) =
     let done = is_shown given show in
     Shown show.id show.block show.count done (if done then bytes_of_pages page show.block show.count else []) ∷ []
 
+-- ---- what was done to the buffer
+
+-- an entry of the one hand that there is
+abbrev pub noted : MemEvent → MemEntry
+noted what = record { hand = 0; what = what }
+
+abbrev pub attach_entries : Option ℕ → Bool → List MemEntry
+attach_entries None is_attached = []
+attach_entries (Some pages) true = noted (Attach 1 pages 0) ∷ []
+attach_entries (Some pages) false = []
+
+-- what the first n steps of a read landed
+abbrev pub landings : List (List ℕ) → ℕ → Request → ℕ → List MemEntry
+landings image block read n = map (λ k. noted (land_for 0 read k (block_at image (block + k)))) (below n)
+
+-- what a read left, by its verdict, where so many steps were made
+abbrev pub read_entries : Verdict → List (List ℕ) → ℕ → Request → ℕ → List MemEntry
+read_entries Accepted image block read made = noted (Pin 0 read.vmoid 0) ∷ (landings image block read made ++ noted (Done 0 read.vmoid) ∷ [])
+read_entries (Refused status) image block read made = []
+
+abbrev pub shown_entries : Option ℕ → Option ShowLine → List MemEntry
+shown_entries given None = []
+shown_entries given (Some show) = if is_shown given show then noted (Show show.id show.block show.count) ∷ [] else []
+
+abbrev pub release_entries : Option ℕ → List MemEntry
+release_entries None = []
+release_entries (Some pages) = noted (Release 1) ∷ []
+
 -- ---- the session
 
 -- What a script leaves free: whether its buffer was attached, and how many steps its read made, both for want of memory.
@@ -183,6 +215,19 @@ session_log size range script course steps =
     ++ (shown_events given (session_page size steps script.read) script.show
     ++ (received_events (at_end script.waits answer)
     ++ Drained ∷ []))))
+
+-- what was done to the buffer
+abbrev pub read_line_entries : List (List ℕ) → Range → Option ℕ → ℕ → Option ReadLine → List MemEntry
+read_line_entries image range given made None = []
+read_line_entries image range given made (Some line) = read_entries (read_verdict range given line) image (range.first + line.device_offset) (read_request line) made
+
+abbrev pub session_memory : List (List ℕ) → Range → ShortScript → Course → List MemEntry
+session_memory image range script course =
+    let given = given_in script course in
+    attach_entries script.attach course.is_attached
+    ++ (read_line_entries image range given course.made script.read
+    ++ (shown_entries given script.show
+    ++ release_entries given))
 
 -- the read made no more steps than it asks for
 abbrev pub MakesFew : Range → Option ℕ → ℕ → Option ReadLine → Type 0

@@ -1,12 +1,12 @@
 //! The session of a run, and the closing flush after it.
 ghost use Rattle.std.specs.Prelude.{◌≡◌, ◌≢◌, [], ◌∷◌, false};
 ghost use Rattle.host_io.specs.MemDisk.{opening_of};
-ghost use Rattle.host_report.specs.Lawful.{closing_flush};
+ghost use Rattle.host_report.specs.Lawful.{IsLawful, closing_flush};
 ghost use Rattle.host_report.specs.Played.{IsPlayed};
 ghost use Rattle.host_report.specs.declared.closing.Closing.TheVariants.{Fault as ClosingFault};
 ghost use Rattle.blockhost.specs.Built.{IsServedStart};
 ghost use Rattle.blockhost.specs.Dry.{image_in};
-ghost use Rattle.blockhost.specs.Outcomes.{IsLawfulSoFar};
+ghost use Rattle.blockhost.specs.Outcomes.{ShowsItsReads};
 ghost use Rattle.blockhost.specs.Plans.{plan_of};
 
 use crate::session::play;
@@ -35,7 +35,8 @@ impl Start {
         requires { IsServedStart self }
         ensures opening { opening_of result.dry ≡ opening_of self.dry.disk }
         ensures played { IsPlayed (plan_of self.script ∷ []) result.report }
-        ensures lawful { IsLawfulSoFar (image_in self.dry) result.report }
+        ensures lawful { IsLawful (image_in self.dry) result.report }
+        ensures shows { ShowsItsReads result.report }
         ensures closing { result.report.closing ≢ ClosingFault }
     {
         let Start {
@@ -44,7 +45,6 @@ impl Start {
             range,
             room,
             mut sessions,
-            memory,
         } = self;
         let mut history = play(alloc, &script, range, &mut dry, room);
         dry.sync();
@@ -55,7 +55,7 @@ impl Start {
             range,
             log: history.log,
             taken: history.taken,
-            memory,
+            memory: history.memory,
             finish: Finish::Drain,
         });
         PlayedRun {

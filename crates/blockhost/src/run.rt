@@ -1,7 +1,7 @@
 //! The top call.
 ghost use Rattle.std.specs.Prelude.{◌≡◌, ◌↔◌, ◌≢◌, map, false, Some, None, IsTrue, IsSome, IfSome, IfNone};
 ghost use Rattle.blockhost.specs.Built.{IsBuilt};
-ghost use Rattle.blockhost.specs.Outcomes.{IsLawfulOn, OpensAs, PlaysText};
+ghost use Rattle.blockhost.specs.Outcomes.{IsLawfulOn, OpensAs, PlaysText, ShowsItsReads};
 ghost use Rattle.host_io.specs.Causes.{Rose};
 ghost use Rattle.host_io.specs.Disks.{OnlyReads};
 ghost use Rattle.blockhost.specs.Refusals.{refusal_line, refused_status};
@@ -59,6 +59,7 @@ pub fn run<S: Source, D: Disk + Send, K: Sink, G: Gate + Sync>(
     // The report is that of the script that was read, and lawful for that image.
     ensures played { IsTrue (S.tells script.old) → IfSome result.report (PlaysText (S.left script.old)) }
     ensures lawful { IsLawfulOn result.dry result.report }
+    ensures shows { IfSome result.report ShowsItsReads }
 
     // What was put.
     ensures text { IfSome result.report (λ report. PutsText (K.tells out.old) (K.appended out.old) (K.appended out.new) (K.faults out.old) (K.faults out.new) (report_text report false)) }

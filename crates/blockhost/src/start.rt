@@ -12,7 +12,6 @@ use crate::session::Room;
 use crate::words::dry_run_image;
 use host_block::{BlockSize, Range};
 use host_io::{Disk, Source};
-use host_model::MemEntries;
 use host_report::SessionReports;
 use std::alloc::Global;
 
@@ -25,7 +24,6 @@ pub struct Start {
     pub range: Range,
     pub room: Room,
     pub sessions: SessionReports,
-    pub memory: MemEntries,
     ghost small: { IsSmall script },
     ghost inside: { range.first + range.count ≤ dry.blocks },
     ghost roomy: { IsRoomFor script dry.size room },
@@ -107,14 +105,12 @@ impl Start {
         let range = find_partition(alloc, &mut dry, script.part)?;
         let room = Room::reserve(alloc, &script, dry.size)?;
         let sessions = SessionReports::with_room(alloc, 1)?;
-        let memory = MemEntries::with_room(alloc, 0)?;
         Ok(Start {
             script,
             dry,
             range,
             room,
             sessions,
-            memory,
         })
     }
 }

@@ -2,18 +2,27 @@
 ghost use Rattle.std.specs.Prelude.{◌≡◌, ◌≤◌, IfOk};
 ghost use Rattle.blockhost.specs.Room.{IsRoomFor, most_steps};
 ghost use Rattle.blockhost.specs.Script.{shown_count};
+ghost use Rattle.blockhost.specs.Session.{noted};
 
 use crate::script::{ReadLine, ShortScript, ShowLine};
 use host_block::{BlockSize, Bytes, Oom};
-use host_model::{Events, Steps, TakenRows};
+use host_model::{Events, MemEntries, MemEntry, MemEvent, Steps, TakenRows};
 use std::alloc::Global;
 
-/// The client's log, the records that were taken, and the steps of the device.
+/// The client's log, the records that were taken, the steps of the device, and what was done to the buffer.
 #[derive(Drop)]
 pub struct History {
     pub log: Events,
     pub taken: TakenRows,
     pub steps: Steps,
+    pub memory: MemEntries,
+}
+
+/// An entry of the one hand that there is.
+pub fn note(what: MemEvent) -> MemEntry
+    ensures { result ≡ noted what }
+{
+    MemEntry { hand: 0, what }
 }
 
 /// What is reserved before a session begins.
@@ -35,6 +44,7 @@ impl Room {
                 log: Events::with_room(alloc, 6)?,
                 taken: TakenRows::with_room(alloc, 1)?,
                 steps: Steps::with_room(alloc, most_steps(script.read) + 1)?,
+                memory: MemEntries::with_room(alloc, most_steps(script.read) + 5)?,
             },
             shown: Bytes::zeroed(alloc, shown_count(script.show) * size.bytes())?,
         })

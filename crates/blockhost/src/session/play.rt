@@ -6,15 +6,15 @@ ghost use Rattle.blockhost.specs.Dry.{IsSameCopy, image_in};
 ghost use Rattle.blockhost.specs.Room.{IsRoomFor, most_steps};
 ghost use Rattle.blockhost.specs.Script.{IsSmall, shown_count};
 ghost use Rattle.blockhost.specs.Serving.{HasPlayed, IsSent, Sends};
-ghost use Rattle.blockhost.specs.Session.{GrowsBy, answer_bytes, at_end, at_wait, attach_events, given_pages, is_shown, read_request, received_events, shown_events, with_more};
+ghost use Rattle.blockhost.specs.Session.{GrowsBy, answer_bytes, at_end, at_wait, attach_entries, attach_events, given_pages, is_shown, read_request, received_events, release_entries, shown_entries, shown_events, with_more};
 
 use super::buffer::Buffer;
-use super::history::{History, Room};
+use super::history::{History, Room, note};
 use super::serve::serve;
 use crate::dry::DryCopy;
 use crate::script::{ReadLine, ShortScript, ShowLine};
 use host_block::{BlockSize, Bytes, Range};
-use host_model::{AttachError, Event, Events};
+use host_model::{AttachError, Event, Events, MemEntries, MemEvent};
 use host_record::{Request, Response, Status};
 use std::alloc::Global;
 
@@ -35,39 +35,65 @@ pub fn play(
     ensures played { HasPlayed (image_in dry.old) dry.old.size range script.now result }
 {
     let Room { mut history, shown } = room;
-    let mut buffer = attach(alloc, script.attach, dry.size, &mut history.log);
+    let mut buffer = attach(alloc, script.attach, dry.size, &mut history);
     let answer = send(alloc, dry, range, script.read, &mut buffer, &mut history);
     let (waited, drained) = split(answer, script.waits);
     receive(waited, &mut history.log);
-    show(alloc, script.show, &buffer, shown, &mut history.log);
+    show(alloc, script.show, &buffer, shown, &mut history);
     receive(drained, &mut history.log);
+    release(&buffer, &mut history.memory);
     history.log.push(Event::Drained);
     history
 }
 
 // Attaches a buffer, which gets the id 1.
-fn attach(alloc: Global, pages: Option<u32>, size: BlockSize, log: &mut Events) -> Option<Buffer>
+fn attach(
+    alloc: Global,
+    pages: Option<u32>,
+    size: BlockSize,
+    history: &mut History,
+) -> Option<Buffer>
     requires few { unwrap_or pages 0 ≤ 4096 }
-    requires room { length log.old.items < log.old.room }
+    requires events { length history.old.log.items < history.old.log.room }
+    requires memory { length history.old.memory.items < history.old.memory.room }
     ensures given { pages_attached result ≡ given_pages pages (is_some result) }
     ensures size { IfSome result (λ buffer. size_of buffer ≡ size) }
     ensures zero { IfSome result (λ buffer. (j : ℕ) → j < pages_of buffer → page_in buffer j ≡ replicate size 0) }
-    ensures log { log.new ≡ with_more log.old (attach_events pages (is_some result)) }
-    ensures grows { GrowsBy log.old log.new 1 }
+    ensures log { history.new.log ≡ with_more history.old.log (attach_events pages (is_some result)) }
+    ensures memory { history.new.memory ≡ with_more history.old.memory (attach_entries pages (is_some result)) }
+    ensures taken { history.new.taken ≡ history.old.taken }
+    ensures steps { history.new.steps ≡ history.old.steps }
+    ensures grows { GrowsBy history.old.log history.new.log 1 }
+    ensures more_memory { GrowsBy history.old.memory history.new.memory 1 }
 {
     let pages = pages?;
     match Buffer::zeroed(alloc, pages, size) {
         Ok(buffer) => {
-            log.push(Event::Attached { pages, id: 1 });
+            history.log.push(Event::Attached { pages, id: 1 });
+            history.memory.push(note(MemEvent::Attach {
+                id: 1,
+                pages,
+                from: 0,
+            }));
             Some(buffer)
         }
         Err(_) => {
-            log.push(Event::NotAttached {
+            history.log.push(Event::NotAttached {
                 pages,
                 cause: AttachError::Oom,
             });
             None
         }
+    }
+}
+
+// Lets the buffer go, where one was attached.
+fn release(buffer: &Option<Buffer>, memory: &mut MemEntries)
+    requires { length memory.old.items < memory.old.room }
+    ensures { memory.new ≡ with_more memory.old (release_entries (pages_attached buffer.now)) }
+{
+    if buffer.is_some() {
+        memory.push(note(MemEvent::Release { id: 1 }));
     }
 }
 
@@ -86,10 +112,12 @@ fn send(
     requires events { length history.old.log.items < history.old.log.room }
     requires rows { length history.old.taken.items < history.old.taken.room }
     requires steps { length history.old.steps.items + most_steps line ≤ history.old.steps.room }
+    requires memory { length history.old.memory.items + most_steps line + 2 ≤ history.old.memory.room }
     ensures same { IsSameCopy dry.old dry.new }
     ensures sent { Sends (image_in dry.old) range line history.old history.new buffer.old buffer.new result }
     ensures grows { GrowsBy history.old.log history.new.log 1 }
     ensures steps { GrowsBy history.old.steps history.new.steps (most_steps line) }
+    ensures memory { GrowsBy history.old.memory history.new.memory (most_steps line + 2) }
     ensures size { IfSome buffer.new (λ b. size_of b ≡ dry.old.size) }
 {
     match line {
@@ -113,10 +141,12 @@ fn send_line(
     requires events { length history.old.log.items < history.old.log.room }
     requires rows { length history.old.taken.items < history.old.taken.room }
     requires steps { length history.old.steps.items + min line.length 65536 ≤ history.old.steps.room }
+    requires memory { length history.old.memory.items + min line.length 65536 + 2 ≤ history.old.memory.room }
     ensures same { IsSameCopy dry.old dry.new }
     ensures sent { IsSent (image_in dry.old) range line history.old history.new buffer.old buffer.new result }
     ensures grows { GrowsBy history.old.log history.new.log 1 }
     ensures steps { GrowsBy history.old.steps history.new.steps (min line.length 65536) }
+    ensures memory { GrowsBy history.old.memory history.new.memory (min line.length 65536 + 2) }
     ensures size { IfSome buffer.new (λ b. size_of b ≡ dry.old.size) }
 {
     let request = request_of(line);
@@ -124,7 +154,7 @@ fn send_line(
         index: 0,
         bytes: request.to_bytes(),
     });
-    let row = serve(alloc, dry, range, &request, buffer, &mut history.steps);
+    let row = serve(alloc, dry, range, &request, buffer, history);
     history.taken.push(row);
     answer_of(&request, row.outcome)
 }
@@ -186,18 +216,30 @@ fn show(
     line: Option<ShowLine>,
     buffer: &Option<Buffer>,
     into: Bytes,
-    log: &mut Events,
+    history: &mut History,
 )
-    requires room { length log.old.items < log.old.room }
+    requires events { length history.old.log.items < history.old.log.room }
+    requires memory { length history.old.memory.items < history.old.memory.room }
     requires into { IfSome buffer.now (λ b. length into ≡ shown_count line * size_of b) }
-    ensures log { log.new ≡ with_more log.old (shown_events (pages_attached buffer.now) (page_attached buffer.now) line) }
-    ensures grows { GrowsBy log.old log.new 1 }
+    ensures log { history.new.log ≡ with_more history.old.log (shown_events (pages_attached buffer.now) (page_attached buffer.now) line) }
+    ensures memory { history.new.memory ≡ with_more history.old.memory (shown_entries (pages_attached buffer.now) line) }
+    ensures taken { history.new.taken ≡ history.old.taken }
+    ensures steps { history.new.steps ≡ history.old.steps }
+    ensures grows { GrowsBy history.old.log history.new.log 1 }
+    ensures more_memory { GrowsBy history.old.memory history.new.memory 1 }
 {
     let Some(line) = line else {
         return;
     };
     let (done, bytes) = shown(alloc, line, buffer, into);
-    log.push(Event::Shown {
+    if done {
+        history.memory.push(note(MemEvent::Show {
+            id: line.id,
+            block: line.block,
+            count: line.count,
+        }));
+    }
+    history.log.push(Event::Shown {
         id: line.id,
         block: line.block,
         count: line.count,

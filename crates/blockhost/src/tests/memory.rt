@@ -20,6 +20,26 @@ fn the_stored_run(rt: HostRuntime) -> Result<(), Fail> {
     Ok(())
 }
 
+// What the stored run may print after its table: with memory for all, with none for the step, and with none for the buffer.
+const ENDS: [&[u8]; 3] = [
+    b"attach 1 id 1\n  send 0 0100000001000000000001000100000000000000000000000000000000000000\n  answer 0 reqid 1 group 0 count 1\n  show 1 0 1 yes\n    0 all 22\n  drained\nsteps 2\nclosing ok\nend\n",
+    b"attach 1 id 1\n  send 0 0100000001000000000001000100000000000000000000000000000000000000\n  answer -4 reqid 1 group 0 count 1\n  show 1 0 1 yes\n    0 all 00\n  drained\nsteps 1\nclosing ok\nend\n",
+    b"attach 1 no-memory\n  send 0 0100000001000000000001000100000000000000000000000000000000000000\n  answer -25 reqid 1 group 0 count 1\n  show 1 0 1 no\n  drained\nsteps 1\nclosing ok\nend\n",
+];
+
+// To be tried with each allocation refused in turn: `rt try --test --fail-alloc N`.
+#[test]
+fn memory_refused(rt: HostRuntime) {
+    if let Some(left) = run_base(rt.alloc(), STORED_SCRIPT) {
+        let is_right = match left.status {
+            RunStatus::Done => ENDS.iter().any(|end| left.text.ends_with(end)),
+            RunStatus::OutOfMemory => left.text.as_slice() == b"refused 8 memory\n".as_slice(),
+            _ => false,
+        };
+        assert!(rt; is_right, "{:?}", left.status);
+    }
+}
+
 // Each script, and lines that stand in its text.
 const PLAYED: [(&[u8], &[u8]); 9] = [
     (

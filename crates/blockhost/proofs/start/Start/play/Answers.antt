@@ -5,7 +5,7 @@ use Rattle.host_report.specs.declared.closing.Closing.TheVariants.{Good}
 use Rattle.host_report.specs.declared.report.Report.{Report}
 use Rattle.host_gpt.specs.declared.which.Which.TheVariants.{Primary}
 use Rattle.host_report.specs.declared.session.SessionReport.{SessionReport}
-use Rattle.blockhost.proofs.ReportLemmas.{IsReportOf, is_lawful, is_played}
+use Rattle.blockhost.proofs.ReportLemmas.{IsReportOf, is_lawful, is_played, shows_reads}
 use Rattle.blockhost.proofs.start.Start.play.Goals as goal
 
 abbrev report_of : goal.After-push-2 → Report
@@ -23,7 +23,7 @@ reported : (c : goal.After-push-2) → IsReportOf c.args.self.dry c.args.self.ra
 reported c =
     let start = c.args.self in
     let history = c.play-history.result in
-    let session : SessionReport = record { number = 1; part = start.script.part; range = start.range; log = history.log; taken = history.taken; memory = start.memory; finish = Drain } in
+    let session : SessionReport = record { number = 1; part = start.script.part; range = start.range; log = history.log; taken = history.taken; memory = history.memory; finish = Drain } in
     record {
       blocks = c.sync.ensures.same.blocks ∙ c.play-history.ensures.same.blocks;
       size = c.sync.ensures.same.size ∙ c.play-history.ensures.same.size;
@@ -38,6 +38,8 @@ reported c =
       finish = refl;
       steps = ap (λ l. l.items) c.push.ensures ∙ ap (λ (s : Step). history.steps.items ++ s ∷ []) c.closing_step.ensures;
       closing = refl;
+      memory = refl;
+      home = refl;
     }
 
 pub returns-clause-played : goal.returns-clause-played
@@ -45,3 +47,6 @@ returns-clause-played c = is_played c.args.self c.play-history.result (report_of
 
 pub returns-clause-lawful : goal.returns-clause-lawful
 returns-clause-lawful c = is_lawful c.args.self c.play-history.result (report_of c) c.requires c.play-history.ensures.played (reported c)
+
+pub returns-clause-shows : goal.returns-clause-shows
+returns-clause-shows c = shows_reads c.args.self c.play-history.result (report_of c) c.play-history.ensures.played (reported c)
