@@ -1,0 +1,21 @@
+-- What follows from a run having played a script.
+use Rattle.std.specs.Prelude.{◌≡◌, List, ◌++◌, length, map}
+use Rattle.host_model.specs.declared.event.Event.{Event}
+use Rattle.host_model.specs.Groups.{owed}
+use Rattle.host_model.specs.Log.{requests}
+use Rattle.host_report.specs.declared.session.SessionReport.{SessionReport}
+use Rattle.host_report.specs.Played.{IsPlayedBy, before_call, calls_asked}
+use Rattle.script_model.specs.declared.script.ScriptLine.{ScriptLine}
+use Rattle.script_model.specs.Owed.{owed as owed_by}
+use Rattle.script_model.specs.Plans.{SessionPlan}
+use Rattle.script_played.specs.Played.{ask_of, asked_of}
+
+-- what the log tells of before the call that follows these lines
+abbrev pub log_after : List ScriptLine → List Event → List Event
+log_after lines log = before_call (length (calls_asked (map ask_of lines))) log
+
+-- before each line's call the records of the log owe as many answers as the lines before it
+abbrev pub OwedAsWritten : Type 0
+OwedAsWritten =
+    (plan : SessionPlan) (s : SessionReport) (before rest : List ScriptLine) → IsPlayedBy (asked_of plan) s → plan.lines ≡ before ++ rest
+    → length (owed (requests (log_after before s.log.items))) ≡ owed_by before
