@@ -1,0 +1,8 @@
+use Rattle.host_check.specs.Had.{follows_by}
+use Rattle.record_check.proofs.GroupLemmas.{below_step}
+use Rattle.host_check.proofs.following.all_follow.Goals as goal
+
+pub loop-i-preserved : goal.loop-i-preserved
+loop-i-preserved c =
+    below_step (follows_by c.args.rs.now c.args.verdicts.now c.args.log.now c.args.steps.now c.args.history.now c.args.had.now c.args.steps_r.now c.args.entries_r.now)
+    c.loop-i.i c.loop-i.all _ c.loop-i.invariant c.in_ok-here.ensures

@@ -1,0 +1,4 @@
+pub mod Had
+pub mod ImageBytes
+pub mod Legal
+pub mod Parts
