@@ -1,0 +1,5 @@
+use Rattle.std.proofs.Common.{length}
+use Rattle.played_check.proofs.calls.+are_calls.Given as goal
+
+abbrev pub decreases-are_calls : goal.decreases-are_calls
+decreases-are_calls l = length l.log.now
