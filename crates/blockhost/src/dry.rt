@@ -18,6 +18,7 @@ pub struct DryCopy {
     ghost sized: { (shape_of disk).size ≡ size },
     ghost never_fails: { IsTrue (never_fails_of disk) },
     ghost has_not_failed: { (counts_of disk).faults ≡ 0 },
+    ghost no_syncs: { (counts_of disk).syncs ≡ 0 },
     ghost durable: { (state_of disk).durable ≡ image_of size (opening_of disk) },
     ghost nothing_waits: { (state_of disk).pending ≡ [] },
 }
@@ -29,7 +30,7 @@ impl DryCopy {
     ghost use Rattle.host_io.specs.Copies.{bytes_of};
     ghost use Rattle.host_io.specs.Disks.{Attaches, OnlyReads};
     ghost use Rattle.host_io.specs.Flat.{image_of};
-    ghost use Rattle.host_io.specs.MemDisk.{opening_of};
+    ghost use Rattle.host_io.specs.MemDisk.{counts_of, opening_of};
     ghost use Rattle.blockhost.specs.Dry.{Copies, IsSameCopy, image_in};
     ghost use Rattle.blockhost.specs.declared.refusal.Refusal.TheVariants.{Disk as DiskFailed, NotBuilt as TooManyBlocks};
     ghost use Rattle.blockhost.specs.Refusals.{IsOfDisk};
@@ -86,12 +87,14 @@ impl DryCopy {
         }
     }
 
-    /// Makes what was written durable, which is nothing.
-    pub fn sync(&mut self)
-        ensures same { IsSameCopy self.old self.new }
+    /// The disk, with all that was written made durable.
+    pub fn flushed(self) -> MemDisk
+        ensures opening { opening_of result ≡ opening_of self.disk }
+        ensures syncs { (counts_of result).syncs ≡ 1 }
     {
-        match self.disk.sync() {
-            Ok(()) => (),
+        let mut disk = self.disk;
+        match disk.sync() {
+            Ok(()) => disk,
             Err(_) => unreachable!("a copy in memory never fails"),
         }
     }

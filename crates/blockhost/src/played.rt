@@ -1,6 +1,6 @@
 //! The session of a run, and the closing flush after it.
 ghost use Rattle.std.specs.Prelude.{◌≡◌, ◌≢◌, [], ◌∷◌, false};
-ghost use Rattle.host_io.specs.MemDisk.{opening_of};
+ghost use Rattle.host_io.specs.MemDisk.{counts_of, opening_of};
 ghost use Rattle.host_report.specs.Lawful.{IsLawful, closing_flush};
 ghost use Rattle.host_report.specs.Played.{IsPlayed};
 ghost use Rattle.host_report.specs.declared.closing.Closing.TheVariants.{Fault as ClosingFault};
@@ -37,6 +37,7 @@ impl Start {
         ensures played { IsPlayed (plan_of self.script ∷ []) result.report }
         ensures lawful { IsLawful (image_in self.dry) result.report }
         ensures shows { ShowsItsReads result.report }
+        ensures flushed { (counts_of result.dry).syncs ≡ 1 }
         ensures closing { result.report.closing ≢ ClosingFault }
     {
         let Start {
@@ -47,7 +48,8 @@ impl Start {
             mut sessions,
         } = self;
         let mut history = play(alloc, &script, range, &mut dry, room);
-        dry.sync();
+        let (blocks, size) = (dry.blocks, dry.size);
+        let disk = dry.flushed();
         history.steps.push(closing_step(alloc));
         sessions.push(SessionReport {
             number: 1,
@@ -60,15 +62,15 @@ impl Start {
         });
         PlayedRun {
             report: Report {
-                blocks: dry.blocks,
-                size: dry.size,
+                blocks,
+                size,
                 which: Which::Primary,
                 sessions,
                 steps: history.steps,
                 closing: Closing::Good,
                 frames_home: FRAMES,
             },
-            dry: dry.disk,
+            dry: disk,
         }
     }
 }

@@ -4,6 +4,7 @@ ghost use Rattle.blockhost.specs.Built.{IsBuilt};
 ghost use Rattle.blockhost.specs.Outcomes.{IsLawfulOn, OpensAs, PlaysText, ShowsItsReads};
 ghost use Rattle.host_io.specs.Causes.{Rose};
 ghost use Rattle.host_io.specs.Disks.{OnlyReads};
+ghost use Rattle.host_io.specs.MemDisk.{counts_of};
 ghost use Rattle.blockhost.specs.Refusals.{refusal_line, refused_status};
 ghost use Rattle.blockhost.specs.Statuses.{HasReport, ReadsOut, played_status};
 ghost use Rattle.host_report.specs.Text.{report_text};
@@ -56,10 +57,11 @@ pub fn run<S: Source, D: Disk + Send, K: Sink, G: Gate + Sync>(
     // What was played on: the image that the words name on the disk handed in, where that tells.
     ensures opening { IsTrue (D.shape disk).tells → IfSome result.dry (OpensAs (map (λ w. w.now) words.now) (λ name. D.image_named disk name 512)) }
 
-    // The report is that of the script that was read, and lawful for that image.
+    // The report is that of the script that was read, and lawful for that image; the copy was flushed once.
     ensures played { IsTrue (S.tells script.old) → IfSome result.report (PlaysText (S.left script.old)) }
     ensures lawful { IsLawfulOn result.dry result.report }
     ensures shows { IfSome result.report ShowsItsReads }
+    ensures flushed { IfSome result.dry (λ dry. (counts_of dry).syncs ≡ 1) }
 
     // What was put.
     ensures text { IfSome result.report (λ report. PutsText (K.tells out.old) (K.appended out.old) (K.appended out.new) (K.faults out.old) (K.faults out.new) (report_text report false)) }

@@ -10,8 +10,8 @@ use Rattle.blockhost.proofs.start.Start.play.Goals as goal
 
 abbrev report_of : goal.After-push-2 → Report
 report_of c = record {
-  blocks = c.sync.new.self.blocks;
-  size = c.sync.new.self.size;
+  blocks = c.play-history.new.dry.blocks;
+  size = c.play-history.new.dry.size;
   which = Primary;
   sessions = c.push-2.new.self;
   steps = c.push.new.self;
@@ -25,8 +25,8 @@ reported c =
     let history = c.play-history.result in
     let session : SessionReport = record { number = 1; part = start.script.part; range = start.range; log = history.log; taken = history.taken; memory = history.memory; finish = Drain } in
     record {
-      blocks = c.sync.ensures.same.blocks ∙ c.play-history.ensures.same.blocks;
-      size = c.sync.ensures.same.size ∙ c.play-history.ensures.same.size;
+      blocks = c.play-history.ensures.same.blocks;
+      size = c.play-history.ensures.same.size;
       which = refl;
       session = session;
       sessions = ap (λ l. l.items) c.push-2.ensures ∙ ap (λ (l : List SessionReport). l ++ session ∷ []) start.no_sessions;
