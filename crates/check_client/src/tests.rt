@@ -3,12 +3,15 @@ mod cases;
 mod edit;
 mod groups;
 mod lists;
+mod plans;
 mod transfers;
 
 use build::report;
 use cases::{BASE, CASES, Part};
 use host_check::{RunParts, SessionParts, blocks_of, is_lawful_image, run_parts, session_parts};
 use host_gpt::{Which, sample};
+use plans::plans;
+use played_check::{Ask, is_played};
 use std::test::Fail;
 
 // The parts of a session, where only this one is broken.
@@ -75,5 +78,18 @@ fn the_base_report_is_of_the_base_image(rt: HostRuntime) -> Result<(), Fail> {
     assert!(rt; !is_lawful_image(alloc, &[], &report)?);
     report.which = Which::Backup;
     assert!(rt; !is_lawful_image(alloc, bytes.as_slice(), &report)?);
+    Ok(())
+}
+
+#[test]
+fn the_base_report_played_what_it_tells(rt: HostRuntime) -> Result<(), Fail> {
+    let alloc = rt.alloc();
+    let report = report(alloc, &BASE)?;
+    let early = Ask::WaitFor { total: 1 };
+    let unplayed = Ask::Attach { pages: 8 };
+    assert!(rt; is_played(alloc, &plans(alloc, None)?, &report)?);
+    assert!(rt; is_played(alloc, &plans(alloc, Some(Ask::WaitAll))?, &report)?);
+    assert!(rt; !is_played(alloc, &plans(alloc, Some(early))?, &report)?);
+    assert!(rt; !is_played(alloc, &plans(alloc, Some(unplayed))?, &report)?);
     Ok(())
 }

@@ -12,7 +12,7 @@ use host_report::{Closing, Report, SessionReport};
 use std::alloc::Global;
 use std::test::Fail;
 
-const SESSIONS: [Lists; 6] = [
+pub const SESSIONS: [Lists; 6] = [
     transfers::REALISTIC,
     groups::FAILED,
     groups::AGAIN,
@@ -32,8 +32,8 @@ fn blocks(alloc: Global, bytes: &[u8]) -> Result<Bytes, Fail> {
     Ok(Bytes::copied(alloc, &all)?)
 }
 
-// The bytes of a request.
-fn request_bytes(
+/// The bytes of a request.
+pub fn request_bytes(
     command: u32,
     reqid: u32,
     group: u16,
