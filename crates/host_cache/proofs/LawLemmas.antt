@@ -18,7 +18,7 @@ use Rattle.host_cache.specs.declared.line.Victim.{Victim}
 use Rattle.host_cache.proofs.EntryLemmas.{Entries}
 use Rattle.host_cache.proofs.StepLemmas.{holding, read_other, read_same, kept_victim, clean_victim, content_victim, kept_room, clean_room, content_room}
 
-LeadAll-split : (xs ys : List DiskCall) (s u : DiskState) → LeadAll (xs ++ ys) s u → (t : DiskState) × LeadAll xs s t × LeadAll ys t u
+pub LeadAll-split : (xs ys : List DiskCall) (s u : DiskState) → LeadAll (xs ++ ys) s u → (t : DiskState) × LeadAll xs s t × LeadAll ys t u
 LeadAll-split [] ys s u lead = (s, refl, lead)
 LeadAll-split (x ∷ xs) ys s u lead = let rest = LeadAll-split xs ys lead.0 u lead.2 in (rest.0, (lead.0, lead.1, rest.1), rest.2)
 
@@ -27,7 +27,7 @@ module _ (image : List (List ℕ)) (history : List Change) (size : ℕ) where
   faithful-append [] ys p q = q
   faithful-append (x ∷ xs) ys p q = (p.0, faithful-append xs ys p.1 q)
 
-  last_keeps : (calls : List DiskCall) (s t : DiskState) → LeadThrough (Keeps image history) calls s t → Keeps image history t
+  pub last_keeps : (calls : List DiskCall) (s t : DiskState) → LeadThrough (Keeps image history) calls s t → Keeps image history t
   last_keeps [] s t through = subst (λ (v : DiskState). Keeps image history v) (sym through.1) through.0
   last_keeps (call ∷ calls) s t through = last_keeps calls through.1.0 t through.1.2
 
