@@ -1,5 +1,0 @@
-//! Runs on objects in memory, and the real files and streams.
-
-mod fixture;
-mod memory;
-mod outside;

@@ -1,0 +1,18 @@
+use Rattle.std.proofs.Common.{◌≡◌, ◌∙◌, ℕ, length, arith, subst}
+use Rattle.host_block.specs.Disk.{IsOfSize}
+use Rattle.host_run.proofs.DryLemmas.{copied_image}
+use Rattle.host_run.proofs.dry.DryCopy.of_image.Goals as goal
+
+pub returns-clause-copied : goal.returns-clause-copied
+returns-clause-copied g c told =
+    let image = g.D.Disk.image_named c.args.disk.now c.args.image.now c.args.size in
+    let shape = g.D.Disk.shape c.attach.new.disk in
+    let state = g.D.Disk.state c.attach.new.disk in
+    let attached = c.in_ok-blocks.ensures.attaches in
+    let still_told = attached.tells ∙ told in
+    let count : c.in_ok-blocks.blocks ≡ length image = attached.count ∙ attached.blocks told in
+    let sized = subst (λ (n : ℕ). IsOfSize shape.blocks n state) attached.of_size (g.met.D.Disk.of_size c.attach.new.disk still_told) in (
+      c.of_bytes.ensures.image
+          ∙ copied_image c.args.size shape.blocks c.in_ok-blocks.blocks image c.in_ok-bytes.bytes.items state c.requires (attached.content told) sized count (c.in_ok-bytes.ensures.bytes still_told),
+      omega (arith, c.in_ok-blocks.ensures.few),
+    )

@@ -1,0 +1,14 @@
+pub mod Buffer
+pub mod Built
+pub mod Dry
+pub mod Outcomes
+pub mod Plans
+pub mod Refusals
+pub mod Room
+pub mod Script
+pub mod Serving
+pub mod Session
+pub mod Shows
+pub mod Statuses
+pub mod Words
+pub mod Writes

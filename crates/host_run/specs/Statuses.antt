@@ -1,0 +1,47 @@
+-- How a run ends.
+use Rattle.std.specs.Prelude.{◌≡◌, ℕ, Bool, true, false, List, [], Option, Some, None, IsSome}
+use Rattle.host_run.specs.Refusals.{refused_status}
+use Rattle.host_run.specs.Script.{IsReadOut}
+use Rattle.host_run.specs.declared.refusal.Refusal.{Refusal}
+use Rattle.host_report.specs.declared.closing.Closing.{Closing}
+use Rattle.host_report.specs.declared.closing.Closing.TheVariants.{Good, Fault, Cut, NoMemory}
+use Rattle.host_report.specs.declared.report.Report.{Report}
+use Rattle.host_run.specs.declared.status.RunStatus.{RunStatus}
+use Rattle.host_run.specs.declared.status.RunStatus.TheVariants.{Done, ClosingFault, BadWords, NoTable, BadScript, DiskFault, ScriptFault, SinkFault, OutOfMemory, TooLarge, NoPart, NotBuilt}
+
+-- the number of a status
+abbrev pub number_of : RunStatus → ℕ
+number_of Done = 0
+number_of ClosingFault = 1
+number_of BadWords = 2
+number_of NoTable = 3
+number_of (BadScript line cause) = 4
+number_of DiskFault = 5
+number_of ScriptFault = 6
+number_of SinkFault = 7
+number_of OutOfMemory = 8
+number_of (TooLarge what) = 9
+number_of (NoPart session part) = 10
+number_of NotBuilt = 11
+
+-- the status of a run whose sessions began, by its closing flush and whether its text was taken whole
+abbrev pub played_status : Closing → Bool → RunStatus
+played_status Good true = Done
+played_status Good false = SinkFault
+played_status Cut true = Done
+played_status Cut false = SinkFault
+played_status Fault was_written = ClosingFault
+played_status NoMemory was_written = OutOfMemory
+
+-- A report comes with the statuses 0, 1 and 7, with 8 just where the closing flush was refused memory, and with no other;
+-- status 1 comes just where the closing flush failed. Without a report the status is that of a refusal: 5, 6, 8 or 11.
+abbrev pub HasReport : RunStatus → Option Report → Type 0
+HasReport status None = (refusal : Refusal) × (status ≡ refused_status refusal)
+HasReport status (Some report) = (was_written : Bool) × (status ≡ played_status report.closing was_written)
+
+-- What a status says of the reading of the script: but for 6, 8 without a report, and 11 for the words, it was read to its
+-- end, or past its limit.
+pub record ReadsOut (is_dry_run : Type 0) (status : RunStatus) (report : Option Report) (left new_left : List ℕ) : Type 0 where
+  pub played : IsSome report → new_left ≡ []
+  pub disk : status ≡ DiskFault → new_left ≡ []
+  pub not_built : status ≡ NotBuilt → is_dry_run → IsReadOut left new_left
