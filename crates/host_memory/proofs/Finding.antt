@@ -1,0 +1,33 @@
+-- The buffer at the place where its id was found.
+use Rattle.std.proofs.Common.{◌≡◌, ℕ, suc, ◌+◌, ◌<◌, List, length, get_or, Some, refl, sym, ap, subst, ◌∙◌, arith}
+use Rattle.std.specs.Prelude.{slice_get}
+use Rattle.std.proofs.lemmas.Option.{slice_get_read}
+use Rattle.atomic_table.specs.Seated.{TableId}
+use Rattle.host_block.specs.Room.{WithRoom}
+use Rattle.host_model.specs.declared.memory.MemEntry.{MemEntry}
+use Rattle.host_model.specs.declared.memory.MemEvent.{MemEvent}
+use Rattle.host_memory.specs.declared.buffer.Buffer.{Buffer}
+use Rattle.host_memory.specs.declared.limits.MemoryLimits.{MemoryLimits}
+use Rattle.host_memory.specs.Entries.{given_count}
+use Rattle.host_memory.specs.Held.{has_blocks, standing_in}
+use Rattle.host_memory.specs.Kept.{IsKept, IsToldBy}
+use Rattle.host_memory.specs.PagesHeld.{has_pages_at, pages_standing}
+use Rattle.host_memory.specs.State.{events}
+use Rattle.host_memory.proofs.Seeing.{has_blocks_is, standing_is}
+
+module _ (limits : MemoryLimits) (pool : TableId × ℕ) (l : WithRoom MemEntry) (moves left : ℕ) (bs : List Buffer) (k : IsKept limits pool l moves left bs)
+    (h : List MemEvent) (seen : events l.items ≡ h) (i id : ℕ) (x : Buffer) (named : i + 1 ≡ id) (given : i < given_count h) (here : x ≡ get_or bs i x) where
+  id_is : suc i ≡ id
+  id_is = omega arith
+
+  pub found_at : slice_get bs i ≡ Some x
+  found_at = slice_get_read bs (length bs) i x refl (subst (λ z. i < z) k.told.given (subst (λ z. i < given_count z) (sym seen) given)) here
+
+  pub found_told : IsToldBy pool limits.size (events l.items) (suc i) x
+  found_told = k.told.each i x found_at
+
+  pub found_blocks : (block cnt : ℕ) → has_blocks id h block cnt ≡ has_pages_at x.pages block cnt
+  found_blocks block cnt = ap (λ z. has_blocks id z block cnt) (sym seen) ∙ (ap (λ v. has_blocks v (events l.items) block cnt) (sym id_is) ∙ has_blocks_is pool limits.size (events l.items) (suc i) x found_told block cnt)
+
+  pub found_standing : (j : ℕ) → standing_in id j h ≡ pages_standing x.pages x.closer x.from x.page_count j
+  found_standing j = ap (λ z. standing_in id j z) (sym seen) ∙ (ap (λ v. standing_in v j (events l.items)) (sym id_is) ∙ standing_is pool limits.size (events l.items) (suc i) x found_told j)
