@@ -141,6 +141,13 @@ impl<D: Disk> Cache<D> {
         self.sync()
     }
 
+    /// The disk under the cache, which may lack blocks that the cache has.
+    pub fn disk(&self) -> &D
+        ensures { result.now ≡ disk_of self.now }
+    {
+        &self.disk
+    }
+
     /// The disk. Blocks that it doesn't have yet are dropped.
     pub fn into_disk(self) -> D
         ensures { result ≡ disk_of self }
