@@ -1,0 +1,7 @@
+pub mod Answered
+pub mod Examples
+pub mod Parsed
+pub mod Rules
+pub mod Turns
+pub mod Walks
+pub mod WordKinds
