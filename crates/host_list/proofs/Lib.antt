@@ -1,0 +1,3 @@
+pub mod GuidLemmas
+pub mod NameLemmas
+pub mod ServedLemmas

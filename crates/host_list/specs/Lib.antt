@@ -1,0 +1,5 @@
+pub mod Guid
+pub mod Laws
+pub mod Name
+pub mod Served
+pub mod Text
