@@ -1,0 +1,135 @@
+//! A run on objects in memory, and what the judges find of it.
+
+use super::cases::{Case, Outside};
+use crate::plays;
+use host_check::is_lawful_image;
+use host_gpt::sample;
+use host_io::{CallKind, FailAt, MemDisk, MemSink, MemSource, OpenGate};
+use host_report::{Report, write_report};
+use host_run::{RunStatus, run};
+use host_script::parse;
+use std::alloc::Global;
+
+/// The most bytes of a text.
+const ROOM: u32 = 10_000;
+
+/// What a run left.
+#[derive(Drop)]
+pub struct Left {
+    pub status: RunStatus,
+    pub text: Vec<u8>,
+    pub found: Option<Found>,
+}
+
+/// What the judges found of a report.
+#[derive(Clone, Copy, Debug, PartialEq, Eq)]
+pub struct Found {
+    /// It is lawful for the image.
+    pub lawful: bool,
+    /// The script was played.
+    pub played: bool,
+    /// What was put is its text, or a front of it where the sink failed.
+    pub told: bool,
+}
+
+impl Left {
+    /// Whether nothing is wrong with its report, if it has one.
+    pub fn is_right(&self) -> bool {
+        match self.found {
+            Some(found) => found.lawful && found.played && found.told,
+            None => true,
+        }
+    }
+
+    /// Whether these lines stand in the text, one after the other; none where nothing was put.
+    pub fn has_lines(&self, lines: &str) -> bool {
+        if lines.is_empty() {
+            return self.text.is_empty();
+        }
+        for start in 0..=self.text.len() {
+            if self.text[start..].starts_with(lines.as_bytes()) {
+                return true;
+            }
+        }
+        false
+    }
+}
+
+/// Runs a case, and judges its report; `None` where memory was refused to the judge.
+pub fn run_judged(alloc: Global, case: &Case) -> Option<Left> {
+    let image = image(alloc, case.outside)?;
+    let script = script(alloc, case)?;
+    let mut source = source(alloc, &script, case.outside)?;
+    let mut sink = sink(alloc, case.outside)?;
+    let disk = disk(alloc, &image, case.outside)?;
+    let outcome = run(alloc, case.words, &mut source, disk, &mut sink, &OpenGate);
+    let found = match &outcome.report {
+        Some(report) => Some(Found {
+            lawful: is_lawful_image(alloc, &image, report).ok()?,
+            played: plays(alloc, &parse(alloc, &script).ok()?, report).ok()?,
+            told: is_told(alloc, report, sink.bytes(), outcome.status)?,
+        }),
+        None => None,
+    };
+    Some(Left {
+        status: outcome.status,
+        text: sink.bytes().to_vec(alloc).ok()?,
+        found,
+    })
+}
+
+// Whether this is the text of the report, or where the sink failed a front of it.
+fn is_told(alloc: Global, report: &Report, text: &[u8], status: RunStatus) -> Option<bool> {
+    let mut sink = MemSink::new(alloc, ROOM, Vec::new(alloc)).ok()?;
+    let is_whole = write_report(report, false, &mut sink).is_ok();
+    let is_front = sink.bytes().starts_with(text);
+    let is_all = sink.bytes().len() == text.len() || status == RunStatus::SinkFault;
+    Some(is_whole && is_front && is_all)
+}
+
+// The base image, or one whose table's first usable block is changed.
+fn image(alloc: Global, outside: Outside) -> Option<Vec<u8>> {
+    let base = sample::base_image(alloc).ok()?;
+    let mut image = base.as_slice().to_vec(alloc).ok()?;
+    if let Outside::Table = outside {
+        *image.get_mut(552)? = 35;
+    }
+    Some(image)
+}
+
+fn script(alloc: Global, case: &Case) -> Option<Vec<u8>> {
+    match case.outside {
+        Outside::LongScript => vec![in alloc; b'\n'; 4097].ok(),
+        _ => case.script.as_bytes().to_vec(alloc).ok(),
+    }
+}
+
+fn source(alloc: Global, script: &[u8], outside: Outside) -> Option<MemSource> {
+    let mut fails = Vec::new(alloc);
+    if let Outside::Source = outside {
+        fails.push(1).ok()?;
+    }
+    Some(MemSource::new(script.to_vec(alloc).ok()?, fails))
+}
+
+fn sink(alloc: Global, outside: Outside) -> Option<MemSink> {
+    let mut fails = Vec::new(alloc);
+    if let Outside::Sink = outside {
+        fails.push(1).ok()?;
+    }
+    MemSink::new(alloc, ROOM, fails).ok()
+}
+
+fn disk(alloc: Global, image: &[u8], outside: Outside) -> Option<MemDisk> {
+    let mut fails = Vec::new(alloc);
+    match outside {
+        Outside::Attach => fails.push(failing(CallKind::Attach, 1)).ok()?,
+        Outside::Read => fails.push(failing(CallKind::Read, 100)).ok()?,
+        _ => (),
+    }
+    Some(MemDisk::new(alloc, image.to_vec(alloc).ok()?, fails))
+}
+
+fn failing(kind: CallKind, nr: u64) -> FailAt {
+    FailAt { kind, nr, part: 0 }
+}
