@@ -1,3 +1,4 @@
+pub mod Answers
 pub mod Guid
 pub mod Laws
 pub mod Name

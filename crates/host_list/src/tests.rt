@@ -1,11 +1,10 @@
 ghost use Rattle.std.specs.Prelude.{◌≡◌, length};
 
-use crate::write_list;
+use crate::{ListError, list_image};
 use host_block::BlockSize;
+use host_gpt::crc32;
 use host_gpt::sample::base_image;
-use host_gpt::{crc32, read_table};
-use host_io::{Disk, MemDisk, MemSink};
-use host_part::serve;
+use host_io::{MemDisk, MemSink};
 use std::alloc::Global;
 use std::test::Fail;
 
@@ -25,19 +24,21 @@ bad 2 first 60 last 94 type 0fc63daf-8483-4772-8e79-3d69d8477de4 id 22222222-222
 end
 ";
 
-fn list_on<D: Disk>(alloc: Global, disk: &mut D, size: BlockSize, out: &mut MemSink) -> Option<()> {
-    let blocks = disk.attach_image("any", size, false).ok()?;
-    let table = read_table(alloc, disk, blocks, size).ok()?;
-    let parts = serve(alloc, &table, blocks).ok()?;
-    write_list(blocks, size, &table, &parts, out).ok()
-}
-
+// Lists an image in memory, and tells whether the text is this one.
 fn is_listed_as(alloc: Global, image: Vec<u8>, text: &str) -> Result<bool, Fail> {
     let mut disk = MemDisk::new(alloc, image, Vec::new(alloc));
     let size = BlockSize::new(512).ok_or("size")?;
     let mut out = MemSink::new(alloc, 4_096, Vec::new(alloc))?;
-    list_on(alloc, &mut disk, size, &mut out).ok_or("no list")?;
-    Ok(out.bytes() == text.as_bytes())
+    let listed = list_image(alloc, "any", size, &mut disk, &mut out);
+    Ok(listed.is_ok() && out.bytes() == text.as_bytes())
+}
+
+// Why an image in memory isn't listed.
+fn refusal_of(alloc: Global, image: Vec<u8>) -> Result<Option<ListError>, Fail> {
+    let mut disk = MemDisk::new(alloc, image, Vec::new(alloc));
+    let size = BlockSize::new(512).ok_or("size")?;
+    let mut out = MemSink::new(alloc, 4_096, Vec::new(alloc))?;
+    Ok(list_image(alloc, "any", size, &mut disk, &mut out).err())
 }
 
 // Lets the second entry of the base image begin in block 60, changes its attributes and its name, and mends the CRCs of
@@ -68,5 +69,7 @@ fn lists_of_images(rt: HostRuntime) -> Result<(), Fail> {
     }
     assert!(rt; is_listed_as(alloc, whole, BASE)?);
     assert!(rt; is_listed_as(alloc, damaged, DAMAGED)?);
+    let zeros = vec![in alloc; 0; 65_536]?;
+    assert!(rt; refusal_of(alloc, zeros)? == Some(ListError::NoTable));
     Ok(())
 }

@@ -1,0 +1,72 @@
+-- What listing an image gives.
+use Rattle.std.specs.Prelude.{◌≡◌, ℕ, ◌<◌, ◌≤◌, Bool, IsTrue, List, length, Result, Ok, Err}
+use Rattle.host_gpt.specs.Reads.{IsTableOf}
+use Rattle.host_gpt.specs.Table.{TableIsAbsent, TableIsTooLarge}
+use Rattle.host_gpt.specs.declared.table.Table.{Table}
+use Rattle.host_gpt.specs.declared.table_error.TableError.{TableError}
+use Rattle.host_gpt.specs.declared.table_error.TableError.TheVariants as table
+use Rattle.host_io.specs.declared.disk.DiskError.{DiskError}
+use Rattle.host_io.specs.declared.disk.DiskError.TheVariants as disk
+use Rattle.host_list.specs.Text.{list_text}
+use Rattle.host_list.specs.declared.opened.Opened.{Opened}
+use Rattle.host_list.specs.declared.list_error.ListError.{ListError}
+use Rattle.host_list.specs.declared.list_error.ListError.TheVariants.{Disk, TooManyBlocks, NoTable, TableTooLarge, Oom, Sink}
+use Rattle.host_text.specs.Writing.{Writes}
+
+abbrev pub of_disk_error : DiskError → ListError
+of_disk_error disk.Failed = Disk
+of_disk_error disk.Oom = Oom
+
+abbrev pub of_table_error : TableError → ListError
+of_table_error table.NoTable = NoTable
+of_table_error table.Disk = Disk
+of_table_error table.TooLarge = TableTooLarge
+of_table_error table.Oom = Oom
+
+-- the most blocks that an image may have
+abbrev pub IsSmallEnough : List (List ℕ) → Type 0
+IsSmallEnough image = length image ≤ 262144
+
+-- this is the image's table, on so many blocks
+pub record IsListed (image : List (List ℕ)) (blocks : ℕ) (table : Table) : Type 0 where
+  pub few : IsSmallEnough image
+  pub count : blocks ≡ length image
+  pub is : IsTableOf image table
+
+-- what a refusal says of the image; a failure of disk or sink and want of memory say nothing
+abbrev pub Refuses : List (List ℕ) → ListError → Type 0
+Refuses image TooManyBlocks = 262144 < length image
+Refuses image NoTable = IsSmallEnough image × TableIsAbsent image
+Refuses image TableTooLarge = IsSmallEnough image × TableIsTooLarge image
+Refuses image Disk = Unit {0}
+Refuses image Oom = Unit {0}
+Refuses image Sink = Unit {0}
+
+-- attaching an image
+abbrev pub Attached : List (List ℕ) → Result ℕ ListError → Type 0
+Attached image (Ok blocks) = (blocks ≡ length image) × IsSmallEnough image
+Attached image (Err e) = Refuses image e
+
+-- opening an image
+abbrev pub Opens : List (List ℕ) → Result Opened ListError → Type 0
+Opens image (Ok o) = IsListed image o.blocks o.table
+Opens image (Err e) = Refuses image e
+
+-- the text of a table was put, which is the image's where the disk tells
+pub record Lists (disk_tells : Bool) (image : List (List ℕ)) (size : ℕ) (tells : Bool) (old new : List ℕ) (result : Result Unit ListError) : Type 0 where
+  pub blocks : ℕ
+  pub table : Table
+  pub listed : IsTrue disk_tells → IsListed image blocks table
+  pub text : Writes tells old new (list_text blocks size table) result
+
+-- What the answer says: the text was put, up to a failure of the sink, or why nothing was put, where the disk tells.
+abbrev pub Answers : Bool → List (List ℕ) → ℕ → Bool → List ℕ → List ℕ → Result Unit ListError → Type 0
+Answers disk_tells image size tells old new (Ok u) = Lists disk_tells image size tells old new (Ok u)
+Answers disk_tells image size tells old new (Err Sink) = Lists disk_tells image size tells old new (Err Sink)
+Answers disk_tells image size tells old new (Err e) = IsTrue disk_tells → Refuses image e
+
+-- the text wasn't begun
+abbrev pub IsRefused : Result Unit ListError → Type 0
+IsRefused (Ok u) = ⊥
+IsRefused (Err Sink) = ⊥
+IsRefused (Err e) = Unit {0}

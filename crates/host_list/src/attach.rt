@@ -1,0 +1,28 @@
+// Attaching an image.
+ghost use Rattle.std.specs.Prelude.{◌≡◌, ◌≢◌, Err, IsErrOf, IsTrue};
+ghost use Rattle.host_io.specs.Causes.{Rose};
+ghost use Rattle.host_io.specs.Disks.{Attaches, OnlyReads};
+ghost use Rattle.host_list.specs.Answers.{Attached};
+ghost use Rattle.host_list.specs.declared.list_error.ListError.TheVariants.{Disk as DiskFails, Sink as SinkFails};
+
+use crate::ListError;
+use host_block::BlockSize;
+use host_io::Disk;
+
+/// The most blocks that an image may have.
+const BLOCK_LIMIT: u64 = 262_144;
+
+/// Attaches an image, to read alone, and gives its number of blocks.
+pub fn attach<D: Disk>(image: &str, size: BlockSize, disk: &mut D) -> Result<u64, ListError>
+    ensures inside { result ≢ Err SinkFails }
+    ensures fault { IsErrOf result DiskFails → Rose (D.counts disk.old).faults (D.counts disk.new).faults }
+    ensures only_reads { OnlyReads (D.counts disk.old) (D.counts disk.new) (D.never_fails disk.old) (D.never_fails disk.new) }
+    ensures attaches { Attaches size (D.image_named disk.old image.now size) (D.shape disk.old) (D.shape disk.new) (D.state disk.new) result }
+    ensures attached { IsTrue (D.shape disk.old).tells → Attached (D.image_named disk.old image.now size) result }
+{
+    let blocks = disk.attach_image(image, size, false)?;
+    if blocks > BLOCK_LIMIT {
+        return Err(ListError::TooManyBlocks);
+    }
+    Ok(blocks)
+}

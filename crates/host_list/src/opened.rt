@@ -1,0 +1,70 @@
+// The table of an image that was attached.
+ghost use Rattle.std.specs.Prelude.{◌≡◌};
+ghost use Rattle.host_gpt.specs.Entries.{AreUsed};
+ghost use Rattle.host_part.specs.Served.{layout_of};
+
+use crate::attach::attach;
+use crate::{ListError, write_list};
+use host_block::BlockSize;
+use host_gpt::{Table, read_table};
+use host_io::{Disk, Sink};
+use host_part::{Parts, serve};
+use std::alloc::Global;
+
+/// The table of an image with so many blocks, and what it serves there.
+#[derive(Drop)]
+pub struct Opened {
+    pub blocks: u64,
+    pub size: BlockSize,
+    pub table: Table,
+    pub parts: Parts,
+    ghost served: { parts ≡ layout_of table blocks },
+    ghost used: { AreUsed table.entries.items },
+}
+
+impl Opened {
+    ghost use Rattle.std.specs.Prelude.{◌≡◌, ◌≢◌, ◌⊎◌, Err, IfOk, IsErrOf, IsOk, IsTrue};
+    ghost use Rattle.host_io.specs.Causes.{Rose};
+    ghost use Rattle.host_io.specs.Disks.{OnlyReads};
+    ghost use Rattle.host_list.specs.Answers.{Opens};
+    ghost use Rattle.host_list.specs.Text.{list_text};
+    ghost use Rattle.host_list.specs.declared.list_error.ListError.TheVariants.{Disk as DiskFails, Sink as SinkFails};
+    ghost use Rattle.host_text.specs.Writing.{Writes};
+
+    /// Attaches an image and reads its table.
+    pub fn open<D: Disk>(
+        alloc: Global,
+        image: &str,
+        size: BlockSize,
+        disk: &mut D,
+    ) -> Result<Opened, ListError>
+        ensures inside { result ≢ Err SinkFails }
+        ensures fault { IsErrOf result DiskFails → Rose (D.counts disk.old).faults (D.counts disk.new).faults }
+        ensures only_reads { OnlyReads (D.counts disk.old) (D.counts disk.new) (D.never_fails disk.old) (D.never_fails disk.new) }
+        ensures size { IfOk result (λ opened. opened.size ≡ size) }
+        ensures opens { IsTrue (D.shape disk.old).tells → Opens (D.image_named disk.old image.now size) result }
+    {
+        let blocks = attach(image, size, disk)?;
+        let table = read_table(alloc, disk, blocks, size)?;
+        let parts = serve(alloc, &table, blocks)?;
+        Ok(Opened {
+            blocks,
+            size,
+            table,
+            parts,
+        })
+    }
+
+    /// Puts the text of the table.
+    pub fn write<K: Sink>(&self, out: &mut K) -> Result<(), ListError>
+        ensures fault { IsErrOf result SinkFails → Rose (K.faults out.old) (K.faults out.new) }
+        ensures alone { IsErrOf result SinkFails ⊎ IsOk result }
+        ensures tells { K.tells out.new ≡ K.tells out.old }
+        ensures text { Writes (K.tells out.old) (K.appended out.old) (K.appended out.new) (list_text self.now.blocks self.now.size self.now.table) result }
+    {
+        match write_list(self.blocks, self.size, &self.table, &self.parts, out) {
+            Ok(()) => Ok(()),
+            Err(_) => Err(ListError::Sink),
+        }
+    }
+}
