@@ -1,0 +1,13 @@
+pub mod Admissions
+pub mod Answers
+pub mod Entries
+pub mod IntakeFields
+pub mod Intaken
+pub mod Ledgers
+pub mod Members
+pub mod Rights
+pub mod State
+pub mod Takings
+pub mod Told
+pub mod Touching
+pub mod Waits

@@ -1,0 +1,237 @@
+//! The history of an intake, with what it tells kept beside it.
+ghost use Rattle.std.specs.Prelude.{◌≡◌, ◌+◌, ◌<◌, ◌≤◌, [], ◌∷◌, ◌++◌, true, false, length, slice_get, IfOk, IsTrue};
+ghost use Rattle.std.specs.VecDeque.{deque_capacity, deque_len};
+ghost use Rattle.host_intake.specs.declared.entry.IntakeEntry.TheVariants.{Took, Landed, Passed, Turned};
+ghost use Rattle.host_intake.specs.declared.entry.Phase.TheVariants.{Aborted, Closed};
+ghost use Rattle.host_intake.specs.Entries.{takings, landings};
+ghost use Rattle.host_intake.specs.Ledgers.{is_course, slips_to_keep};
+ghost use Rattle.host_intake.specs.Told.{is_aborted, phase_in, turns, flights_in, kept_slips, is_flying, memory_front_in, rows_in};
+
+use crate::entry::{IntakeEntry, Phase, RecordEnd};
+use host_block::{Oom, ReservedList};
+use host_model::{TakenRow, TakenRows, Verdict};
+use host_record::Status;
+use host_rings::{Envelope, Slip};
+use std::alloc::Global;
+use std::collections::VecDeque;
+use std::marker::Model;
+
+/// As many records may be in flight, or answers kept, at once.
+pub(crate) const LIMIT: u32 = 64;
+
+/// The history, the phase, the number of records in flight, the answers kept, and the rows.
+#[derive(Drop)]
+pub(crate) struct Ledger {
+    room: u32,
+    entries: ReservedList<IntakeEntry>,
+    phase: Phase,
+    flights: u32,
+    kept: VecDeque<Slip>,
+    memory_front: u64,
+    rows: Vec<TakenRow>,
+    // Room for the rows at the end, since rows that are given away can't be written in place.
+    ending: TakenRows,
+}
+
+impl Model for Ledger {
+    ghost use Rattle.std.specs.Prelude.{◌≡◌, ◌<◌, ◌≤◌, [], vec_capacity};
+    ghost use Rattle.std.specs.VecDeque.{deque_capacity};
+    ghost use Rattle.host_intake.specs.Ledgers.{LedgerState, IsLedger};
+
+    ghost Value = { LedgerState };
+
+    ghost view = { λ a. record { room = a.room; entries = a.entries.items } };
+
+    ghost invariant = { λ a. IsLedger a.room a.entries a.phase a.flights a.kept.items a.memory_front a.rows.items × (a.room ≤ vec_capacity a.rows) × (64 ≤ deque_capacity a.kept) × (a.ending.items ≡ []) × (a.room ≤ a.ending.room) × (a.room < 4294967296) };
+}
+
+impl Ledger {
+    /// An empty history, with room for so many records.
+    pub(crate) fn new(alloc: Global, room: u32) -> Result<Ledger, Oom>
+        ensures { IfOk result (λ a. a ≡ record { room = room; entries = [] }) }
+    {
+        let entries = ReservedList::with_room(alloc, 3 * room as u64 + 2)?;
+        let Ok(kept) = VecDeque::with_capacity(alloc, LIMIT as usize) else {
+            return Err(Oom);
+        };
+        let Ok(rows) = Vec::with_capacity(alloc, room as usize) else {
+            return Err(Oom);
+        };
+        let ending = TakenRows::with_room(alloc, room as u64)?;
+        Ok(Ledger {
+            room,
+            entries,
+            phase: Phase::Running,
+            flights: 0,
+            kept,
+            memory_front: 0,
+            rows,
+            ending,
+        })
+    }
+
+    pub(crate) fn length(&self) -> u64
+        ensures { result ≡ length self.now.entries }
+    {
+        self.entries.len()
+    }
+
+    pub(crate) fn phase(&self) -> Phase
+        ensures { result ≡ phase_in self.now.entries }
+    {
+        self.phase
+    }
+
+    pub(crate) fn taken(&self) -> u32
+        ensures { result ≡ length (takings self.now.entries) }
+    {
+        self.rows.len() as u32
+    }
+
+    pub(crate) fn flights(&self) -> u32
+        ensures { result ≡ flights_in self.now.entries }
+    {
+        self.flights
+    }
+
+    pub(crate) fn kept(&self) -> u32
+        ensures { result ≡ length (kept_slips self.now.entries) }
+    {
+        self.kept.len() as u32
+    }
+
+    pub(crate) fn memory_front(&self) -> u64
+        ensures { result ≡ memory_front_in self.now.entries }
+    {
+        self.memory_front
+    }
+
+    /// The oldest answer kept.
+    pub(crate) fn next_kept(&self) -> Option<Slip>
+        ensures { result ≡ slice_get (kept_slips self.now.entries) 0 }
+    {
+        self.kept.front().copied()
+    }
+
+    /// The next record was taken.
+    pub(crate) fn take(
+        &mut self,
+        hand: u32,
+        envelope: Envelope,
+        verdict: Verdict,
+        waits: bool,
+        seen: u64,
+    )
+        requires index { envelope.index ≡ length (takings self.old.entries) }
+        requires room { length (takings self.old.entries) < self.old.room }
+        requires limit { flights_in self.old.entries + length (kept_slips self.old.entries) < 64 }
+        requires phase { phase_in self.old.entries ≡ Closed → ⊥ }
+        ensures { self.new ≡ record self.old { entries = self.old.entries ++ Took hand envelope verdict waits seen ∷ [] } }
+    {
+        self.flights += 1;
+        self.memory_front = self.memory_front.max(seen);
+        self.rows.push_reserved(TakenRow {
+            verdict,
+            outcome: Status::Ok,
+        });
+        self.entries.push(IntakeEntry::Took {
+            hand,
+            envelope,
+            verdict,
+            waits,
+            seen,
+        });
+    }
+
+    /// A record in flight ended.
+    pub(crate) fn land(
+        &mut self,
+        hand: u32,
+        index: u32,
+        end: RecordEnd,
+        answer: Option<Slip>,
+        kept: bool,
+    )
+        requires { IsTrue (is_flying index self.old.entries) }
+        ensures entry { self.new ≡ record self.old { entries = self.old.entries ++ Landed hand index end answer kept ∷ [] } }
+        ensures limit { flights_in self.new.entries + length (kept_slips self.new.entries) ≤ 64 }
+    {
+        self.flights -= 1;
+        self.rows[index as usize].outcome = end.outcome;
+        keep(&mut self.kept, self.phase, kept, answer);
+        self.entries.push(IntakeEntry::Landed {
+            hand,
+            index,
+            end,
+            answer,
+            kept,
+        });
+    }
+
+    /// The oldest answer kept leaves.
+    pub(crate) fn pass(&mut self, hand: u32)
+        requires { 0 < length (kept_slips self.old.entries) }
+        ensures { self.new ≡ record self.old { entries = self.old.entries ++ Passed hand ∷ [] } }
+    {
+        self.kept.pop_front();
+        self.entries.push(IntakeEntry::Passed { hand });
+    }
+
+    /// The session is in another phase now.
+    pub(crate) fn turn(&mut self, hand: u32, phase: Phase)
+        requires course { IsTrue (is_course (turns self.old.entries ++ phase ∷ [])) }
+        requires over { phase ≡ Closed → flights_in self.old.entries ≡ 0 }
+        requires other { is_aborted phase ≡ false }
+        ensures { self.new ≡ record self.old { entries = self.old.entries ++ Turned hand phase ∷ [] } }
+    {
+        self.phase = phase;
+        self.entries.push(IntakeEntry::Turned { hand, phase });
+    }
+
+    /// The session is aborted, and the answers kept are dropped.
+    pub(crate) fn abort(&mut self, hand: u32)
+        requires { IsTrue (is_course (turns self.old.entries ++ Aborted ∷ [])) }
+        ensures { self.new ≡ record self.old { entries = self.old.entries ++ Turned hand Aborted ∷ [] } }
+    {
+        self.phase = Phase::Aborted;
+        self.kept.clear();
+        self.entries.push(IntakeEntry::Turned {
+            hand,
+            phase: Phase::Aborted,
+        });
+    }
+
+    /// The rows of the records taken, by their index.
+    pub(crate) fn into_rows(self) -> TakenRows
+        ensures { result.items ≡ rows_in self.entries }
+    {
+        let Ledger { rows, ending, .. } = self;
+        with_rows(ending, rows)
+    }
+}
+
+// The answer, if there is one, stands last, where it is to be kept and the session wasn't aborted.
+fn keep(slips: &mut VecDeque<Slip>, phase: Phase, kept: bool, answer: Option<Slip>)
+    requires { deque_len slips.old < deque_capacity slips.old }
+    ensures items { slips.new.items ≡ slips.old.items ++ slips_to_keep phase kept answer }
+    ensures capacity { deque_capacity slips.new ≡ deque_capacity slips.old }
+{
+    if !kept || phase == Phase::Aborted {
+        return;
+    }
+    if let Some(slip) = answer {
+        let Ok(()) = slips.push_back(slip) else {
+            unreachable!()
+        };
+    }
+}
+
+fn with_rows(mut all: TakenRows, rows: Vec<TakenRow>) -> TakenRows
+    requires { (all.items ≡ []) × (length rows.items ≤ all.room) }
+    ensures { result.items ≡ rows.items }
+{
+    for row in &rows {
+        all.push(*row);
+    }
+    all
+}

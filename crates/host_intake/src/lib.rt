@@ -1,0 +1,21 @@
+//! The intake of one session: records are popped, judged and taken in order, and end with an answer that is handed on or kept.
+#![tactic(auto)]
+
+mod admission;
+mod admit;
+mod entry;
+mod intake;
+mod judge;
+mod land;
+mod ledger;
+mod parts;
+mod plan;
+mod turns;
+mod waiting;
+
+pub use admission::Admission;
+pub use entry::{IntakeEntry, Phase, RecordEnd};
+pub use intake::Intake;
+pub use parts::IntakeParts;
+pub use plan::IntakePlan;
+pub use waiting::Waiting;
