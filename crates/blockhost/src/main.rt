@@ -1,5 +1,5 @@
-//! `blockhost run IMAGE --dry`: reads a script from standard input, plays it on a copy of the image in memory, and
-//! prints what the session did.
+//! `blockhost run IMAGE --dry` reads a script from standard input, plays it on a copy of the image in memory, and prints
+//! what the session did. `blockhost make SEED SESSIONS REQUESTS` prints a generated script.
 #![tactic(auto)]
 
 use host_file::{FileDisk, StdSink, StdSource, WordsError, program_words};
@@ -27,7 +27,8 @@ fn run_program(rt: &HostRuntime) -> io::Result<u8> {
     Ok(outcome.status.number())
 }
 
-// The words after the program's name. Words that are no text are of no command, and are taken for none.
+// The words after the program's name. Words that are no text are outside the grammar, as no words are, and are taken for
+// none.
 fn words_of(rt: &HostRuntime) -> Result<Vec<String>, AllocError> {
     match program_words(rt) {
         Ok(words) => Ok(words),

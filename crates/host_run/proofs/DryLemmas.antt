@@ -2,6 +2,7 @@
 use Rattle.std.proofs.Common.{◌≡◌, ℕ, ◌<◌, List, [], length, sym, ◌∙◌, ap, subst, arith}
 use Rattle.std.proofs.lemmas.List.Elements.{All-from_get_or}
 use Rattle.host_block.specs.Disk.{DiskState, IsImage, IsOfSize, block_at, fresh}
+use Rattle.host_block.specs.Size.{IsBlockSize}
 use Rattle.host_io.specs.Copies.{bytes_of}
 use Rattle.host_io.specs.Flat.{image_of}
 use Rattle.host_io.specs.FlatShape.{cut_of_size}
@@ -38,3 +39,7 @@ copied_image size blocks n image bytes s some attached sized count read =
 -- copies of one image have the same blocks
 pub same_image : (old new : DryCopy) → IsSameCopy old new → image_in new ≡ image_in old
 same_image old new same = (λ i. image_of (same.size i) (same.opening i))
+
+-- a size of blocks is more than none
+pub some_bytes : (size n : ℕ) → n ≡ size → IsBlockSize n → 0 < size
+some_bytes size n is allowed = grind (arith, is, allowed)

@@ -1,5 +1,5 @@
 -- Which runs are built: those whose words, script and image are of the form that is read so far.
-use Rattle.std.specs.Prelude.{◌≡◌, ◌≤◌, ℕ, List, length, Some, Result, Ok, Err}
+use Rattle.std.specs.Prelude.{◌≡◌, ◌≤◌, ℕ, List, length, Option, Some, Result, Ok, Err}
 use Rattle.host_block.specs.declared.range.Range.{Range}
 use Rattle.host_gpt.specs.declared.entry.Entry.{Entry}
 use Rattle.host_gpt.specs.declared.table.Table.{Table}
@@ -10,7 +10,8 @@ use Rattle.host_gpt.specs.Table.{HasValid, IsTable}
 use Rattle.host_part.specs.Ranges.{IsRangeOf}
 use Rattle.host_run.specs.Dry.{image_in}
 use Rattle.host_run.specs.Script.{IsScriptOf}
-use Rattle.host_run.specs.Words.{dry_run_image}
+use Rattle.host_run.specs.Words.{DryRun, dry_run_in}
+use Rattle.host_words.specs.Commands.{Meaning}
 use Rattle.host_run.specs.declared.refusal.Refusal.{Refusal}
 use Rattle.host_run.specs.declared.refusal.Refusal.TheVariants as refusal
 use Rattle.host_run.specs.declared.script.ShortScript.{ShortScript}
@@ -31,13 +32,18 @@ pub record IsPlayable (image : List (List ℕ)) (part : ℕ) : Type 0 where
   pub range : Range
   pub served : IsServedBy image Primary part range
 
--- These words with this text as their script, where IMAGE names these blocks, make a run that is built.
-pub record IsBuilt (words : List (List ℕ)) (text : List ℕ) (image_named : List ℕ → List (List ℕ)) : Type 0 where
-  pub name : List ℕ
+-- This text as the script of a dry run on an image makes a run that is built.
+pub record IsBuiltOn (image : List (List ℕ)) (text : List ℕ) : Type 0 where
   pub script : ShortScript
-  pub named : dry_run_image words ≡ Some name
   pub read : IsScriptOf text script
-  pub playable : IsPlayable (image_named name) script.part
+  pub playable : IsPlayable image script.part
+
+-- Words of this meaning, with this text as their script, make a run that is built, where IMAGE in blocks of a size names
+-- these blocks.
+pub record IsBuilt (meaning : Option Meaning) (text : List ℕ) (image_named : List ℕ → ℕ → List (List ℕ)) : Type 0 where
+  pub run : DryRun
+  pub asked : dry_run_in meaning ≡ Some run
+  pub is : IsBuiltOn (image_named run.name run.size) text
 
 -- ---- what the stages before a session give
 
@@ -66,10 +72,6 @@ IsServedStart start = IsServedBy (image_in start.dry) Primary start.script.part 
 pub record StartsOn (image : List (List ℕ)) (start : Start) : Type 0 where
   pub is : image_in start.dry ≡ image
   pub few : length image ≤ 262144
-
--- the session is on the image that IMAGE of these words names
-abbrev pub StartsFrom : List (List ℕ) → (List ℕ → List (List ℕ)) → Start → Type 0
-StartsFrom words image_named start = (name : List ℕ) × (dry_run_image words ≡ Some name) × StartsOn (image_named name) start
 
 -- preparing a session on an image
 abbrev pub Starts : List (List ℕ) → ℕ → Result Start Refusal → Type 0

@@ -11,16 +11,25 @@ use Rattle.host_report.specs.declared.report.Report.{Report}
 use Rattle.host_run.specs.Plans.{plan_of}
 use Rattle.host_run.specs.Script.{IsScriptOf}
 use Rattle.host_run.specs.Shows.{is_shown_rightly}
-use Rattle.host_run.specs.Words.{dry_run_image}
+use Rattle.host_run.specs.Words.{DryRun, dry_run_in}
+use Rattle.host_words.specs.Commands.{Meaning}
 use Rattle.host_run.specs.declared.script.ShortScript.{ShortScript}
 
--- the blocks that a dry copy opened with
-abbrev pub opening_image : MemDisk → List (List ℕ)
-opening_image dry = image_of 512 (opening_of dry)
+-- the blocks of a size that a dry copy opened with
+abbrev pub opening_image : ℕ → MemDisk → List (List ℕ)
+opening_image size dry = image_of size (opening_of dry)
 
--- the dry copy opened with the blocks that IMAGE of these words names
-abbrev pub OpensAs : List (List ℕ) → (List ℕ → List (List ℕ)) → MemDisk → Type 0
-OpensAs words image_named dry = (name : List ℕ) × (dry_run_image words ≡ Some name) × (opening_image dry ≡ image_named name)
+-- words of this meaning ask for a dry run of which this holds
+abbrev pub IsAsked : Option Meaning → (DryRun → Type 0) → Type 0
+IsAsked meaning holds = (run : DryRun) × (dry_run_in meaning ≡ Some run) × holds run
+
+-- the dry copy opened with the blocks that IMAGE of the words names, in blocks of their size
+abbrev pub OpensAs : Option Meaning → (List ℕ → ℕ → List (List ℕ)) → MemDisk → Type 0
+OpensAs meaning image_named dry = IsAsked meaning (λ run. opening_image run.size dry ≡ image_named run.name run.size)
+
+-- the blocks of the report have the size that the words ask for
+abbrev pub HasSize : Option Meaning → Report → Type 0
+HasSize meaning report = IsAsked meaning (λ run. report.size ≡ run.size)
 
 -- the report is that of the script in this text
 pub record PlaysText (text : List ℕ) (report : Report) : Type 0 where
@@ -35,4 +44,4 @@ pub record ShowsItsReads (report : Report) : Type 0 where
 
 -- the report, where there is one, is lawful for the image that the dry copy opened with
 abbrev pub IsLawfulOn : Option MemDisk → Option Report → Type 0
-IsLawfulOn dry report = IfSome dry (λ disk. IfSome report (IsLawful (opening_image disk)))
+IsLawfulOn dry report = IfSome dry (λ disk. IfSome report (λ report. IsLawful (opening_image report.size disk) report))

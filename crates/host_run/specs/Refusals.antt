@@ -9,6 +9,7 @@ use Rattle.host_run.specs.declared.status.RunStatus.TheVariants as status
 
 -- the status that the run ends with
 abbrev pub refused_status : Refusal → RunStatus
+refused_status refusal.Words = status.BadWords
 refused_status refusal.NotBuilt = status.NotBuilt
 refused_status refusal.Disk = status.DiskFault
 refused_status refusal.Script = status.ScriptFault
@@ -16,6 +17,7 @@ refused_status refusal.Memory = status.OutOfMemory
 
 -- the line of a status, with its line feed; none where a run with this status isn't refused yet
 abbrev pub refusal_line : RunStatus → List ℕ
+refusal_line status.BadWords = codes "refused 2 words\n"
 refusal_line status.NotBuilt = codes "refused 11 not built\n"
 refusal_line status.DiskFault = codes "refused 5 disk\n"
 refusal_line status.ScriptFault = codes "refused 6 script unread\n"
@@ -27,10 +29,10 @@ abbrev pub of_disk_error : DiskError → Refusal
 of_disk_error error.Failed = refusal.Disk
 of_disk_error error.Oom = refusal.Memory
 
--- no source was read
+-- neither words nor a source were read
 abbrev pub IsOfDisk : {T : Type 0} → Result T Refusal → Type 0
-IsOfDisk result = result ≢ Err refusal.Script
+IsOfDisk result = (result ≢ Err refusal.Words) × (result ≢ Err refusal.Script)
 
--- neither a source nor a disk of the outside was called
+-- nor was a disk of the outside called
 abbrev pub IsInside : {T : Type 0} → Result T Refusal → Type 0
-IsInside result = (result ≢ Err refusal.Script) × (result ≢ Err refusal.Disk)
+IsInside result = (result ≢ Err refusal.Words) × (result ≢ Err refusal.Script) × (result ≢ Err refusal.Disk)

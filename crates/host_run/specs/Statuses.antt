@@ -1,7 +1,9 @@
 -- How a run ends.
 use Rattle.std.specs.Prelude.{◌≡◌, ℕ, Bool, true, false, List, [], Option, Some, None, IsSome}
+use Rattle.host_run.specs.Made.{IsMakeStatus}
 use Rattle.host_run.specs.Refusals.{refused_status}
 use Rattle.host_run.specs.Script.{IsReadOut}
+use Rattle.host_run.specs.Words.{Making}
 use Rattle.host_run.specs.declared.refusal.Refusal.{Refusal}
 use Rattle.host_report.specs.declared.closing.Closing.{Closing}
 use Rattle.host_report.specs.declared.closing.Closing.TheVariants.{Good, Fault, Cut, NoMemory}
@@ -33,11 +35,22 @@ played_status Cut false = SinkFault
 played_status Fault was_written = ClosingFault
 played_status NoMemory was_written = OutOfMemory
 
--- A report comes with the statuses 0, 1 and 7, with 8 just where the closing flush was refused memory, and with no other;
--- status 1 comes just where the closing flush failed. Without a report the status is that of a refusal: 5, 6, 8 or 11.
-abbrev pub HasReport : RunStatus → Option Report → Type 0
-HasReport status None = (refusal : Refusal) × (status ≡ refused_status refusal)
-HasReport status (Some report) = (was_written : Bool) × (status ≡ played_status report.closing was_written)
+-- The report of a run comes with the statuses 0, 1 and 7, with 8 just where the closing flush was refused memory, and with
+-- no other; status 1 comes just where the closing flush failed. Without a report the status is that of a refusal: 2, 5, 6,
+-- 8 or 11.
+abbrev pub HasRunReport : RunStatus → Option Report → Type 0
+HasRunReport status None = (refusal : Refusal) × (status ≡ refused_status refusal)
+HasRunReport status (Some report) = (was_written : Bool) × (status ≡ played_status report.closing was_written)
+
+-- no report, and a status of `make`
+pub record HasMade (status : RunStatus) (report : Option Report) : Type 0 where
+  pub status_is : IsMakeStatus status
+  pub none : report ≡ None
+
+-- a call that makes a script has no report; each other one has one as a run
+abbrev pub HasReport : Option Making → RunStatus → Option Report → Type 0
+HasReport (Some making) status report = HasMade status report
+HasReport None status report = HasRunReport status report
 
 -- What a status says of the reading of the script: but for 6, 8 without a report, and 11 for the words, it was read to its
 -- end, or past its limit.

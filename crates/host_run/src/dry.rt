@@ -45,13 +45,14 @@ impl DryCopy {
         image: &str,
         size: BlockSize,
     ) -> Result<DryCopy, Refusal>
-        requires { 0 < size }
         ensures cause { IsOfDisk result }
         ensures fault { IsErrOf result DiskFailed → Rose (D.counts disk.old).faults (D.counts disk.new).faults }
         ensures counts { OnlyReads (D.counts disk.old) (D.counts disk.new) (D.never_fails disk.old) (D.never_fails disk.new) }
         ensures copied { IsTrue (D.shape disk.old).tells → Copies (D.image_named disk.old image.now size) result }
         ensures size { IfOk result (λ dry. dry.size ≡ size) }
     {
+        // More than none, as each size of blocks.
+        let _bytes = size.bytes();
         let blocks = DryCopy::attach(disk, image, size)?;
         let bytes = copy_image(alloc, disk, blocks, size)?;
         Ok(DryCopy::of_bytes(alloc, bytes, size))

@@ -2,17 +2,20 @@
 #![tactic(auto)]
 
 mod dry;
+mod dry_run;
+mod make;
 mod outcome;
 mod partition;
 mod played;
 mod put;
 mod refusal;
+mod refuse;
 mod script;
 mod session;
 mod start;
 mod status;
+mod task;
 mod top_call;
-mod words;
 
 pub use outcome::Outcome;
 pub use status::{Limit, RunStatus, ScriptCause};

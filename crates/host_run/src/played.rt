@@ -38,6 +38,7 @@ impl Start {
         ensures lawful { IsLawful (image_in self.dry) result.report }
         ensures shows { ShowsItsReads result.report }
         ensures flushed { (counts_of result.dry).syncs ≡ 1 }
+        ensures size { result.report.size ≡ self.dry.size }
         ensures closing { result.report.closing ≢ ClosingFault }
     {
         let Start {

@@ -9,6 +9,8 @@ use host_io::{DiskError, SourceFailed};
 
 #[derive(Clone, Copy, Debug, PartialEq, Eq)]
 pub enum Refusal {
+    /// The words are outside the grammar.
+    Words,
     NotBuilt,
     /// The disk failed, and its count of faults rose.
     Disk,
@@ -24,6 +26,7 @@ impl Refusal {
         ensures { result.now ≡ refusal_line (refused_status self) }
     {
         match self {
+            Refusal::Words => b"refused 2 words\n",
             Refusal::NotBuilt => b"refused 11 not built\n",
             Refusal::Disk => b"refused 5 disk\n",
             Refusal::Script => b"refused 6 script unread\n",
@@ -36,6 +39,7 @@ impl Refusal {
         ensures { result ≡ refused_status self }
     {
         match self {
+            Refusal::Words => RunStatus::BadWords,
             Refusal::NotBuilt => RunStatus::NotBuilt,
             Refusal::Disk => RunStatus::DiskFault,
             Refusal::Script => RunStatus::ScriptFault,

@@ -9,7 +9,6 @@ use crate::partition::find_partition;
 use crate::refusal::Refusal;
 use crate::script::{ShortScript, read_script};
 use crate::session::Room;
-use crate::words::dry_run_image;
 use host_block::{BlockSize, Range};
 use host_io::{Disk, Source};
 use host_report::SessionReports;
@@ -32,43 +31,39 @@ pub struct Start {
 }
 
 impl Start {
-    ghost use Rattle.std.specs.Prelude.{◌≡◌, ◌≢◌, ◌+◌, ◌≤◌, [], map, Err, IfOk, IsErrOf, IsTrue};
+    ghost use Rattle.std.specs.Prelude.{◌≡◌, ◌≢◌, ◌+◌, ◌≤◌, [], Err, IfOk, IsErrOf, IsTrue};
     ghost use Rattle.host_io.specs.Causes.{Rose};
     ghost use Rattle.host_io.specs.Disks.{OnlyReads};
-    ghost use Rattle.host_run.specs.Built.{Finds, IsBuilt, IsServedStart, Starts, StartsFrom};
+    ghost use Rattle.host_run.specs.Built.{Finds, IsBuiltOn, IsServedStart, Starts, StartsOn};
     ghost use Rattle.host_run.specs.Dry.{image_in};
     ghost use Rattle.host_run.specs.Refusals.{IsInside, IsOfDisk};
     ghost use Rattle.host_run.specs.Script.{IsReadOut, IsScriptOf};
-    ghost use Rattle.host_run.specs.Words.{IsDryRun};
-    ghost use Rattle.host_run.specs.declared.refusal.Refusal.TheVariants.{Disk as DiskFailed, Script as ScriptFailed, NotBuilt};
+    ghost use Rattle.host_run.specs.declared.refusal.Refusal.TheVariants.{Disk as DiskFailed, Script as ScriptFailed, NotBuilt, Words as BadWords};
 
-    /// Reads words, script, image and table, in this order.
+    /// Reads script, image and table, in this order.
     pub fn prepare<S: Source, D: Disk>(
         alloc: Global,
-        words: &[&str],
         script: &mut S,
         disk: &mut D,
+        image: &str,
+        size: BlockSize,
     ) -> Result<Start, Refusal>
+        ensures no_words { result ≢ Err BadWords }
         ensures disk_fault { IsErrOf result DiskFailed → Rose (D.counts disk.old).faults (D.counts disk.new).faults }
         ensures script_fault { IsErrOf result ScriptFailed → Rose (S.faults script.old) (S.faults script.new) }
         ensures only_reads { OnlyReads (D.counts disk.old) (D.counts disk.new) (D.never_fails disk.old) (D.never_fails disk.new) }
-        ensures words { (IsDryRun (map (λ w. w.now) words.now) → ⊥) → result ≡ Err NotBuilt }
         ensures whole { IsTrue (S.tells script.old) → result ≢ Err ScriptFailed → result ≢ Err NotBuilt → S.left script.new ≡ [] }
-        ensures read_out { IsTrue (S.tells script.old) → IsDryRun (map (λ w. w.now) words.now) → result ≡ Err NotBuilt → IsReadOut (S.left script.old) (S.left script.new) }
+        ensures read_out { IsTrue (S.tells script.old) → result ≡ Err NotBuilt → IsReadOut (S.left script.old) (S.left script.new) }
 
         // What a session is prepared of, and why there is none.
         ensures script { IsTrue (S.tells script.old) → IfOk result (λ start. IsScriptOf (S.left script.old) start.script) }
-        ensures image { IsTrue (D.shape disk.old).tells → IfOk result (StartsFrom (map (λ w. w.now) words.now) (λ name. D.image_named disk.old name 512)) }
+        ensures image { IsTrue (D.shape disk.old).tells → IfOk result (StartsOn (D.image_named disk.old image.now size)) }
         ensures served { IfOk result IsServedStart }
-        ensures size { IfOk result (λ start. start.dry.size ≡ 512) }
-        ensures not_built { IsTrue (S.tells script.old) → IsTrue (D.shape disk.old).tells → result ≡ Err NotBuilt → ¬ IsBuilt (map (λ w. w.now) words.now) (S.left script.old) (λ name. D.image_named disk.old name 512) }
+        ensures size { IfOk result (λ start. start.dry.size ≡ size) }
+        ensures not_built { IsTrue (S.tells script.old) → IsTrue (D.shape disk.old).tells → result ≡ Err NotBuilt → ¬ IsBuiltOn (D.image_named disk.old image.now size) (S.left script.old) }
     {
-        let image = match dry_run_image(words) {
-            Some(image) => image,
-            None => return Err(Refusal::NotBuilt),
-        };
         let script = read_script(alloc, script)?;
-        Start::of_script(alloc, script, disk, image)
+        Start::of_script(alloc, script, disk, image, size)
     }
 
     // Copies the image, and prepares a session of this script on it.
@@ -77,17 +72,18 @@ impl Start {
         script: ShortScript,
         disk: &mut D,
         image: &str,
+        size: BlockSize,
     ) -> Result<Start, Refusal>
         requires { IsSmall script }
         ensures cause { IsOfDisk result }
         ensures fault { IsErrOf result DiskFailed → Rose (D.counts disk.old).faults (D.counts disk.new).faults }
         ensures only_reads { OnlyReads (D.counts disk.old) (D.counts disk.new) (D.never_fails disk.old) (D.never_fails disk.new) }
         ensures script { IfOk result (λ start. start.script ≡ script) }
-        ensures image { IsTrue (D.shape disk.old).tells → Starts (D.image_named disk.old image.now 512) script.part result }
+        ensures image { IsTrue (D.shape disk.old).tells → Starts (D.image_named disk.old image.now size) script.part result }
         ensures served { IfOk result IsServedStart }
-        ensures size { IfOk result (λ start. start.dry.size ≡ 512) }
+        ensures size { IfOk result (λ start. start.dry.size ≡ size) }
     {
-        let dry = DryCopy::of_image(alloc, disk, image, block_size())?;
+        let dry = DryCopy::of_image(alloc, disk, image, size)?;
         Start::of_copy(alloc, script, dry)
     }
 
@@ -112,15 +108,5 @@ impl Start {
             room,
             sessions,
         })
-    }
-}
-
-// The size of the blocks of each image that is read so far.
-fn block_size() -> BlockSize
-    ensures { result ≡ 512 }
-{
-    match BlockSize::new(512) {
-        Some(size) => size,
-        None => unreachable!("512 is a size of blocks"),
     }
 }

@@ -1,34 +1,35 @@
 //! The top call.
-ghost use Rattle.std.specs.Prelude.{◌≡◌, ◌↔◌, ◌≢◌, map, false, Some, None, IsTrue, IsSome, IfSome, IfNone};
+ghost use Rattle.std.specs.Prelude.{◌≡◌, ◌↔◌, ◌≢◌, ◌⊎◌, map, false, None, IsTrue, IsSome, IfSome, IfNone};
 ghost use Rattle.host_run.specs.Built.{IsBuilt};
-ghost use Rattle.host_run.specs.Outcomes.{IsLawfulOn, OpensAs, PlaysText, ShowsItsReads};
+ghost use Rattle.host_run.specs.Outcomes.{HasSize, IsLawfulOn, OpensAs, PlaysText, ShowsItsReads};
 ghost use Rattle.host_io.specs.Causes.{Rose};
 ghost use Rattle.host_io.specs.Disks.{OnlyReads};
 ghost use Rattle.host_io.specs.MemDisk.{counts_of};
-ghost use Rattle.host_run.specs.Refusals.{refusal_line, refused_status};
-ghost use Rattle.host_run.specs.Statuses.{HasReport, ReadsOut, played_status};
+ghost use Rattle.host_run.specs.Made.{PutsScript};
+ghost use Rattle.host_run.specs.Refusals.{refusal_line};
+ghost use Rattle.host_run.specs.Statuses.{HasReport, ReadsOut};
 ghost use Rattle.host_report.specs.Text.{report_text};
-ghost use Rattle.host_run.specs.Words.{IsDryRun};
+ghost use Rattle.host_run.specs.Words.{IsUnbuilt, dry_run_in, making_in};
+ghost use Rattle.host_words.specs.Commands.{command_of};
 ghost use Rattle.host_run.specs.Writes.{PutsText};
-ghost use Rattle.host_report.specs.declared.closing.Closing.TheVariants.{Fault as ClosingFault};
-ghost use Rattle.host_run.specs.declared.status.RunStatus.TheVariants.{DiskFault, ScriptFault, SinkFault, NotBuilt};
+ghost use Rattle.host_run.specs.declared.status.RunStatus.TheVariants.{BadWords, DiskFault, Done, NotBuilt, OutOfMemory, ScriptFault, SinkFault};
 
+use crate::dry_run::dry_run;
+use crate::make::make;
 use crate::outcome::Outcome;
-use crate::played::PlayedRun;
-use crate::put::put;
 use crate::refusal::Refusal;
-use crate::start::Start;
-use crate::status::RunStatus;
+use crate::refuse::refuse;
+use crate::task::{Task, read_task};
 use host_io::{Disk, Gate, Sink, Source};
-use host_report::{Closing, write_report};
+use host_words::WordsError;
 use std::alloc::Global;
 
-/// Runs the words after the program's name: on a copy of the image in memory it plays the script, and puts the text of
-/// the run. A run that is refused before its session begins puts one line, and keeps its status whether or not `out`
-/// takes it.
-pub fn run<S: Source, D: Disk + Send, K: Sink, G: Gate + Sync>(
+/// Runs the words after the program's name. `run IMAGE --dry` plays the script on a copy of the image in memory and puts
+/// the text of the run; `make` puts the text of a generated script. A call that is refused before its session begins puts
+/// one line, and keeps its status whether or not `out` takes it.
+pub fn run<'a, S: Source, D: Disk + Send, K: Sink, G: Gate + Sync>(
     alloc: Global,
-    words: &[&str],
+    words: &'a [&'a str],
     script: &mut S,
     disk: D,
     out: &mut K,
@@ -40,22 +41,30 @@ pub fn run<S: Source, D: Disk + Send, K: Sink, G: Gate + Sync>(
     ensures sink_fault { result.status ≡ SinkFault → Rose (K.faults out.old) (K.faults out.new) }
 
     // The script was read to its end, or past its limit.
-    ensures read_out { IsTrue (S.tells script.old) → ReadsOut (IsDryRun (map (λ w. w.now) words.now)) result.status result.report (S.left script.old) (S.left script.new) }
-    ensures words { (IsDryRun (map (λ w. w.now) words.now) → ⊥) → result.status ≡ NotBuilt }
+    ensures read_out { IsTrue (S.tells script.old) → ReadsOut (IsSome (dry_run_in (command_of (map (λ w. w.now) words.entry.now)))) result.status result.report (S.left script.old) (S.left script.new) }
+
+    // Words outside the grammar, and words that ask for what isn't built, are told exactly, but for want of memory; where
+    // no run is asked for, source and disk aren't touched.
+    ensures bad_words { result.status ≡ BadWords → command_of (map (λ w. w.now) words.entry.now) ≡ None }
+    ensures outside { command_of (map (λ w. w.now) words.entry.now) ≡ None → (result.status ≡ BadWords) ⊎ (result.status ≡ OutOfMemory) }
+    ensures unbuilt { IsUnbuilt (command_of (map (λ w. w.now) words.entry.now)) → (result.status ≡ NotBuilt) ⊎ (result.status ≡ OutOfMemory) }
+    ensures source_untouched { dry_run_in (command_of (map (λ w. w.now) words.entry.now)) ≡ None → script.new ≡ script.old }
+    ensures disk_untouched { dry_run_in (command_of (map (λ w. w.now) words.entry.now)) ≡ None → result.disk ≡ disk }
 
     // What isn't built yet is told exactly, where script and disk tell.
-    ensures not_built { IsTrue (S.tells script.old) → IsTrue (D.shape disk).tells → result.status ≡ NotBuilt → ¬ IsBuilt (map (λ w. w.now) words.now) (S.left script.old) (λ name. D.image_named disk name 512) }
-    ensures built { IsTrue (S.tells script.old) → IsTrue (D.shape disk).tells → IsSome result.report → IsBuilt (map (λ w. w.now) words.now) (S.left script.old) (λ name. D.image_named disk name 512) }
+    ensures not_built { IsTrue (S.tells script.old) → IsTrue (D.shape disk).tells → result.status ≡ NotBuilt → ¬ IsBuilt (command_of (map (λ w. w.now) words.entry.now)) (S.left script.old) (λ name size. D.image_named disk name size) }
+    ensures built { IsTrue (S.tells script.old) → IsTrue (D.shape disk).tells → IsSome result.report → IsBuilt (command_of (map (λ w. w.now) words.entry.now)) (S.left script.old) (λ name size. D.image_named disk name size) }
 
     // The disk handed in was only read.
     ensures only_reads { OnlyReads (D.counts disk) (D.counts result.disk) (D.never_fails disk) (D.never_fails result.disk) }
 
     // Which statuses have a report, and what is put with it and without.
-    ensures report { HasReport result.status result.report }
+    ensures report { HasReport (making_in (command_of (map (λ w. w.now) words.entry.now))) result.status result.report }
     ensures dry { IsSome result.dry ↔ IsSome result.report }
 
-    // What was played on: the image that the words name on the disk handed in, where that tells.
-    ensures opening { IsTrue (D.shape disk).tells → IfSome result.dry (OpensAs (map (λ w. w.now) words.now) (λ name. D.image_named disk name 512)) }
+    // What was played on, in blocks of the size that the words say: the image that the words name on the disk handed in, where that tells.
+    ensures opening { IsTrue (D.shape disk).tells → IfSome result.dry (OpensAs (command_of (map (λ w. w.now) words.entry.now)) (λ name size. D.image_named disk name size)) }
+    ensures size { IfSome result.report (HasSize (command_of (map (λ w. w.now) words.entry.now))) }
 
     // The report is that of the script that was read, and lawful for that image; the copy was flushed once.
     ensures played { IsTrue (S.tells script.old) → IfSome result.report (PlaysText (S.left script.old)) }
@@ -65,64 +74,21 @@ pub fn run<S: Source, D: Disk + Send, K: Sink, G: Gate + Sync>(
 
     // What was put.
     ensures text { IfSome result.report (λ report. PutsText (K.tells out.old) (K.appended out.old) (K.appended out.new) (K.faults out.old) (K.faults out.new) (report_text report false)) }
-    ensures line { IfNone result.report (PutsText (K.tells out.old) (K.appended out.old) (K.appended out.new) (K.faults out.old) (K.faults out.new) (refusal_line result.status)) }
+    ensures line { IfNone result.report (result.status ≢ Done → result.status ≢ SinkFault → PutsText (K.tells out.old) (K.appended out.old) (K.appended out.new) (K.faults out.old) (K.faults out.new) (refusal_line result.status)) }
+    ensures make { IfSome (making_in (command_of (map (λ w. w.now) words.entry.now))) (λ making. PutsScript (K.tells out.old) (K.appended out.old) (K.appended out.new) (K.faults out.old) (K.faults out.new) making result.status) }
 {
-    let mut disk = disk;
-    match Start::prepare(alloc, words, script, &mut disk) {
-        Ok(start) => report(start.play(alloc), disk, out),
-        Err(refusal) => refuse(refusal, disk, out),
-    }
-}
-
-// Puts the line of a refusal.
-fn refuse<D, K: Sink>(refusal: Refusal, disk: D, out: &mut K) -> Outcome<D>
-    ensures status { result.status ≡ refused_status refusal }
-    ensures disk { result.disk ≡ disk }
-    ensures no_dry { result.dry ≡ None }
-    ensures no_report { result.report ≡ None }
-    ensures line { PutsText (K.tells out.old) (K.appended out.old) (K.appended out.new) (K.faults out.old) (K.faults out.new) (refusal_line (refused_status refusal)) }
-{
-    let _ = put(out, refusal.line());
-    Outcome {
-        status: refusal.status(),
-        disk,
-        dry: None,
-        report: None,
-    }
-}
-
-// Puts the text of a run.
-fn report<D, K: Sink>(run: PlayedRun, disk: D, out: &mut K) -> Outcome<D>
-    requires { run.report.closing ≢ ClosingFault }
-    ensures status { HasReport result.status result.report }
-    ensures sink_fault { result.status ≡ SinkFault → Rose (K.faults out.old) (K.faults out.new) }
-    ensures disk { result.disk ≡ disk }
-    ensures dry { result.dry ≡ Some run.dry }
-    ensures report { result.report ≡ Some run.report }
-    ensures text { PutsText (K.tells out.old) (K.appended out.old) (K.appended out.new) (K.faults out.old) (K.faults out.new) (report_text run.report false) }
-{
-    let was_written = write_report(&run.report, false, out).is_ok();
-    Outcome {
-        status: status_of(run.report.closing, was_written),
-        disk,
-        dry: Some(run.dry),
-        report: Some(run.report),
-    }
-}
-
-// How a run ended whose session began.
-fn status_of(closing: Closing, was_written: bool) -> RunStatus
-    ensures { result ≡ played_status closing was_written }
-{
-    match closing {
-        Closing::Fault => RunStatus::ClosingFault,
-        Closing::NoMemory => RunStatus::OutOfMemory,
-        Closing::Good | Closing::Cut => {
-            if was_written {
-                RunStatus::Done
-            } else {
-                RunStatus::SinkFault
-            }
-        }
+    let task = match read_task(alloc, words) {
+        Ok(task) => task,
+        Err(WordsError::BadWords) => return refuse(Refusal::Words, disk, out),
+        Err(WordsError::Oom) => return refuse(Refusal::Memory, disk, out),
+    };
+    match &task {
+        Task::DryRun { image, size } => dry_run(alloc, image, *size, script, disk, out),
+        Task::Make {
+            seed,
+            sessions,
+            requests,
+        } => make(alloc, *seed, *sessions, *requests, disk, out),
+        Task::NotBuilt => refuse(Refusal::NotBuilt, disk, out),
     }
 }

@@ -13,6 +13,7 @@ use std::alloc::Global;
 /// Reads the script to its end, or one byte past the limit.
 pub fn read_script<S: Source>(alloc: Global, script: &mut S) -> Result<ShortScript, Refusal>
     ensures fault { IsErrOf result refusal.Script → Rose (S.faults script.old) (S.faults script.new) }
+    ensures no_words { result ≢ Err refusal.Words }
     ensures no_disk { result ≢ Err refusal.Disk }
     ensures small { IfOk result IsSmall }
     ensures script { IsTrue (S.tells script.old) → GivesScript (S.left script.old) (S.left script.new) result }

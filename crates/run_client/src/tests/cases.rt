@@ -51,7 +51,17 @@ const NOT_BUILT: Case = Case {
     ..STORED
 };
 
-pub const CASES: [Case; 26] = [
+/// What `make 1 1 2` prints.
+const MADE: &str =
+    "session 1\nattach 8\nfill 1 0 8 01\ntrim 0 11 3\nread 1 1 0 11 4\nwait\nshow 1 0 8\ndrain\n";
+
+const BAD_WORDS: Case = Case {
+    status: RunStatus::BadWords,
+    lines: "refused 2 words\n",
+    ..STORED
+};
+
+pub const CASES: [Case; 29] = [
     STORED,
     Case {
         script: "session 1\nattach 1\nread 1 1 0 29 1\nwait\nshow 1 0 1\n",
@@ -139,12 +149,25 @@ pub const CASES: [Case; 26] = [
         ..NOT_BUILT
     },
     Case {
-        words: &["run", "--dry", "base.img"],
+        words: &["load", "base.img", "1", "1", "2"],
         ..NOT_BUILT
     },
     Case {
+        words: &["run", "--dry", "--block=512", "--", "base.img"],
+        ..STORED
+    },
+    Case {
+        words: &["make", "1", "1", "2"],
+        lines: MADE,
+        ..STORED
+    },
+    Case {
         words: &[],
-        ..NOT_BUILT
+        ..BAD_WORDS
+    },
+    Case {
+        words: &["run", "base.img", "--dry", "--dry"],
+        ..BAD_WORDS
     },
     Case {
         outside: Outside::Source,

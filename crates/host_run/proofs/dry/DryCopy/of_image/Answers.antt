@@ -1,6 +1,6 @@
 use Rattle.std.proofs.Common.{◌≡◌, ◌∙◌, ℕ, length, arith, subst}
 use Rattle.host_block.specs.Disk.{IsOfSize}
-use Rattle.host_run.proofs.DryLemmas.{copied_image}
+use Rattle.host_run.proofs.DryLemmas.{copied_image, some_bytes}
 use Rattle.host_run.proofs.dry.DryCopy.of_image.Goals as goal
 
 pub returns-clause-copied : goal.returns-clause-copied
@@ -13,6 +13,6 @@ returns-clause-copied g c told =
     let count : c.in_ok-blocks.blocks ≡ length image = attached.count ∙ attached.blocks told in
     let sized = subst (λ (n : ℕ). IsOfSize shape.blocks n state) attached.of_size (g.met.D.Disk.of_size c.attach.new.disk still_told) in (
       c.of_bytes.ensures.image
-          ∙ copied_image c.args.size shape.blocks c.in_ok-blocks.blocks image c.in_ok-bytes.bytes.items state c.requires (attached.content told) sized count (c.in_ok-bytes.ensures.bytes still_told),
+          ∙ copied_image c.args.size shape.blocks c.in_ok-blocks.blocks image c.in_ok-bytes.bytes.items state (some_bytes c.args.size c.bytes-bytes.result c.bytes-bytes.ensures.value c.bytes-bytes.ensures.allowed) (attached.content told) sized count (c.in_ok-bytes.ensures.bytes still_told),
       omega (arith, c.in_ok-blocks.ensures.few),
     )
