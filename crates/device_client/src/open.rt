@@ -1,5 +1,5 @@
 // A device over a disk, and steps that make their own room.
-ghost use Rattle.std.specs.Prelude.{◌≡◌, ◌++◌, length, IfSome};
+ghost use Rattle.std.specs.Prelude.{◌≡◌, ◌++◌, [], length, IfSome};
 ghost use Rattle.host_device.specs.Entries.{IsOnDisk, IsPiece, entry_of, entries_added};
 ghost use Rattle.host_device.specs.Seen.{fixed_of, shape_of, steps_of};
 ghost use Rattle.host_turn.specs.History.{Adds};
@@ -19,6 +19,7 @@ pub fn open_device<D: Disk + Drop>(
 ) -> Option<(Device<D>, u64)>
     ensures blocks { IfSome result (λ r. (shape_of r.0).blocks ≡ r.1) }
     ensures size { IfSome result (λ r. (shape_of r.0).size ≡ size) }
+    ensures steps { IfSome result (λ r. (steps_of r.0).items ≡ []) }
 {
     let Ok(blocks) = disk.attach_image("any", size, true) else {
         return None;

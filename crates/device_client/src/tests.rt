@@ -1,7 +1,7 @@
 ghost use Rattle.std.specs.Prelude.{◌≡◌, ◌<◌};
 ghost use Rattle.host_device.specs.Seen.{shape_of};
 
-use crate::{BLOCKS, drawn, make_step, may_leave, open_device, play};
+use crate::{BLOCKS, drawn, make_step, may_leave, open_device, play, run_pair};
 use host_block::{BlockSize, Op};
 use host_device::{Device, Step, StepError};
 use host_io::{CallKind, Counts, Disk, FailAt, MemDisk};
@@ -109,6 +109,51 @@ fn a_write_fails_inside_a_flush(rt: HostRuntime) -> Result<(), Fail> {
             syncs: 1
         }
     );
+    Ok(())
+}
+
+// Whether each read gave the first byte that the last write before it put there.
+fn reads_are_last(steps: &[Step]) -> bool {
+    let mut last = [99u8; 64];
+    for step in steps {
+        let Some(byte) = last.get_mut((step.block % 64) as usize) else {
+            return false;
+        };
+        let Some(first) = step.bytes.as_slice().first() else {
+            return false;
+        };
+        match step.op {
+            Op::Write => *byte = *first,
+            _ => {
+                if *first != *byte {
+                    return false;
+                }
+            }
+        }
+    }
+    true
+}
+
+#[test]
+fn a_device_behind_a_lock(rt: HostRuntime) -> Result<(), Fail> {
+    let alloc = rt.alloc();
+    let size = BlockSize::new(512).ok_or("size")?;
+    assert_eq!(rt; size.bytes(), 512);
+    let disk = MemDisk::new(alloc, vec![in alloc; 99u8; 32768]?, Vec::new(alloc));
+    let (device, blocks) = open_device(alloc, disk, size, 800).ok_or("device")?;
+    assert_eq!(rt; blocks, 64);
+    let device = run_pair(&rt, alloc, device, 25)?;
+    let (steps, _cache) = device.into_parts();
+    assert_eq!(rt; steps.len(), 800);
+    assert_eq!(rt;
+        steps
+            .as_slice()
+            .iter()
+            .filter(|step| step.hand == 1)
+            .count(),
+        400
+    );
+    assert!(rt; reads_are_last(steps.as_slice()));
     Ok(())
 }
 

@@ -1,5 +1,6 @@
 pub mod CallLemmas
 pub mod CrashLemmas
+pub mod Crossing
 pub mod DeviceLemmas
 pub mod EntryLemmas
 pub mod FaultLemmas
