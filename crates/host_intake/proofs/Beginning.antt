@@ -38,6 +38,7 @@ intake_new part size room taker seat q fits taken few outside admits none restin
     judged = λ i t e. absurd (none_at i t e);
     left = none;
     order = λ n e at own. absurd (passes_some (λ e. hand_of e == number seat) (seen_by seat) n e at (eq-eqb e.hand (number seat) own) none);
+    rising = λ i k t u at bt less. absurd (none_at i t at);
   };
   landed = record {
     by_taker = refl;

@@ -10,7 +10,9 @@ use Rattle.host_block.specs.Room.{WithRoom}
 use Rattle.host_record.specs.declared.status.Status.TheVariants as status
 use Rattle.host_group.specs.Ends.{greatest}
 use Rattle.host_model.specs.declared.row.TakenRow.{TakenRow}
-use Rattle.host_model.specs.Lists.{below, count, last}
+use Rattle.host_model.specs.Lists.{all_with_before, below, count, last}
+use Rattle.host_model.proofs.Growth.{all_with_before-push}
+use Rattle.host_model.proofs.ListTests.{and-from}
 use Rattle.host_rings.specs.declared.slip.Slip.{Slip}
 use Rattle.host_memory.proofs.Pushed.{filter_map_skip, filter_map_add, count_skip}
 use Rattle.host_intake.specs.declared.entry.IntakeEntry.{IntakeEntry}
@@ -19,7 +21,7 @@ use Rattle.host_intake.specs.declared.entry.Phase.{Phase}
 use Rattle.host_intake.specs.declared.entry.Phase.TheVariants.{Running, Draining, Aborted, Closed}
 use Rattle.host_intake.specs.declared.entry.RecordEnd.{RecordEnd}
 use Rattle.host_intake.specs.Entries.{Taking, Landing, taking_of, landing_of, takings, landings, is_landing_of, place_of}
-use Rattle.host_intake.specs.Ledgers.{IsLedger, is_before, is_course, is_last_turn, is_shut, slips_to_keep}
+use Rattle.host_intake.specs.Ledgers.{IsLedger, is_before, is_course, is_last_turn, is_shut, slips_to_keep, is_taken_open}
 use Rattle.host_intake.specs.Told.{is_open, turn_of, turns, kept_by, is_passed, is_flying, kept_slips, phase_in, was_aborted, is_aborted, is_ending, row_in, outcome_in, seen_of}
 use Rattle.host_intake.proofs.Counting.{but_for, count_cut, count_agree}
 use Rattle.host_intake.proofs.Pushing.{kept_few, open_landed}
@@ -190,6 +192,7 @@ module _ (room : ℕ) (l : WithRoom IntakeEntry) (phase : Phase) (flights : ℕ)
           passed = subst (λ (z : ℕ). z ≤ length (filter_map kept_by (es ++ e ∷ []))) (sym passed) (omega arith);
           phase_is = k.phase_is ∙ sym ph;
           over = λ c. absurd (not_shut (sym ph ∙ c));
+          before_close = all_with_before-push is_taken_open es e ∙ and-from (all_with_before is_taken_open es) (is_taken_open es e) k.before_close refl;
           flights_are = subst (λ (z : List Landing). flights - 1 + length z ≡ length (takings (es ++ e ∷ []))) (sym ls) (subst (λ (z : List Taking). flights - 1 + length (landings es ++ m ∷ []) ≡ length z) (sym ts) (omega arith));
           kept_are = slips;
           limit = omega arith;

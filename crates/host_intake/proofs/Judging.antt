@@ -1,10 +1,11 @@
 -- The records taken, as the buffer history grows and one more is taken.
-use Rattle.std.proofs.Common.{◌≡◌, ◌⊎◌, inl, inr, ℕ, zero, suc, ◌+◌, ◌≤◌, ◌==◌, Bool, true, false, not, ◌&&◌, cond, List, [], ◌∷◌, ◌++◌, length, filter, take, drop, Option, Some, None, MatchOption, refl, sym, ap, subst, ◌∙◌, arith, length-append, append-nil, eq-eqb}
+use Rattle.std.proofs.Common.{◌≡◌, ◌⊎◌, inl, inr, ℕ, zero, suc, ◌+◌, ◌≤◌, ◌<◌, ◌==◌, Bool, true, false, not, ◌&&◌, cond, List, [], ◌∷◌, ◌++◌, length, filter, take, drop, Option, Some, None, MatchOption, refl, sym, ap, subst, ◌∙◌, arith, length-append, append-nil, eq-eqb}
 use Rattle.std.specs.Prelude.{slice_get, flat_map, unwrap_or}
 use mathlib.Core.List.{IsPrefix}
-use Rattle.std.proofs.lemmas.List.{map-append, length-map, length-take, take-append-le, drop-append-le}
+use Rattle.std.proofs.lemmas.List.{map-append, length-map, length-take, take-append-le, drop-append-le, length-drop}
 use Rattle.std.proofs.lemmas.List.Concat.{flat_map-append}
 use Rattle.std.proofs.lemmas.List.Elements.{filter-append}
+use Rattle.std.proofs.lemmas.Option.{slice_get_within}
 use Rattle.host_block.specs.declared.range.Range.{Range}
 use Rattle.host_model.specs.declared.memory.MemEntry.{MemEntry}
 use Rattle.host_model.specs.declared.memory.MemEvent.{MemEvent}
@@ -23,7 +24,7 @@ use Rattle.host_memory.specs.Pins.{pins_on}
 use Rattle.host_memory.specs.State.{events}
 use Rattle.host_turn.specs.History.{entries_of, Continues}
 use Rattle.host_intake.specs.Entries.{Taking, place_of, request_in}
-use Rattle.host_intake.specs.Takings.{AreTaken, IsJudged, IsPastFront, judged_on, left_by, made, made_for, made_under, under}
+use Rattle.host_intake.specs.Takings.{AreTaken, IsJudged, IsPastJudging, judged_on, left_by, made, made_for, made_under, under}
 use Rattle.host_intake.proofs.Counting.{below_more}
 use Rattle.host_intake.proofs.Removing.{get_snoc}
 
@@ -106,26 +107,27 @@ taken_longer part number xs ys ts more k = record {
   judged = λ i t e. judged_longer part number xs ys t more.0 (k.judged i t e);
   left = more.1 ∙ k.left;
   order = λ n e at own. old_place n e own (get_append xs more.0.0 n e (ap (λ l. slice_get l n) more.0.1 ∙ at));
+  rising = k.rising;
 }
   where
     none_new : entries_of hand_of number more.0.0 ≡ []
     none_new = same_rest (entries_of hand_of number xs) (entries_of hand_of number more.0.0)
         (sym (filter-append (λ e. hand_of e == number) xs more.0.0) ∙ (ap (λ l. entries_of hand_of number l) more.0.1 ∙ more.1))
 
-    old_place : (n : ℕ) (e : MemEntry) → e.hand ≡ number → (slice_get xs n ≡ Some e) ⊎ ((m : ℕ) × (n ≡ length xs + m) × (slice_get more.0.0 m ≡ Some e)) → IsPastFront ts n e.what
+    old_place : (n : ℕ) (e : MemEntry) → e.hand ≡ number → (slice_get xs n ≡ Some e) ⊎ ((m : ℕ) × (n ≡ length xs + m) × (slice_get more.0.0 m ≡ Some e)) → IsPastJudging ts n e.what
     old_place n e own (inl at) = k.order n e at own
     old_place n e own (inr f) = absurd (passes_some (λ e. hand_of e == number) more.0.0 f.0 e f.2 (eq-eqb e.hand number own) none_new)
 
 -- ---- one more was taken
 
-pub past_more : (ts : List Taking) (t : Taking) (n : ℕ) (e : MemEvent) → IsPastFront ts n e → IsPastFront (ts ++ t ∷ []) n e
+pub past_more : (ts : List Taking) (t : Taking) (n : ℕ) (e : MemEvent) → IsPastJudging ts n e → IsPastJudging (ts ++ t ∷ []) n e
 past_more ts t n e p = step (index_of e) p
   where
-    found : (i : ℕ) (o : Option Taking) → slice_get ts i ≡ o → MatchOption o ⊥ (λ t. t.envelope.memory_front ≤ n) → MatchOption (slice_get (ts ++ t ∷ []) i) ⊥ (λ t. t.envelope.memory_front ≤ n)
+    found : (i : ℕ) (o : Option Taking) → slice_get ts i ≡ o → MatchOption o ⊥ (λ t. t.seen ≤ n) → MatchOption (slice_get (ts ++ t ∷ []) i) ⊥ (λ t. t.seen ≤ n)
     found i None e m = absurd m
-    found i (Some u) e m = subst (λ (z : Option Taking). MatchOption z ⊥ (λ t. t.envelope.memory_front ≤ n)) (sym (get_more ts t u i e)) m
+    found i (Some u) e m = subst (λ (z : Option Taking). MatchOption z ⊥ (λ t. t.seen ≤ n)) (sym (get_more ts t u i e)) m
 
-    step : (o : Option ℕ) → MatchOption o (Unit {0}) (λ i. MatchOption (slice_get ts i) ⊥ (λ t. t.envelope.memory_front ≤ n)) → MatchOption o (Unit {0}) (λ i. MatchOption (slice_get (ts ++ t ∷ []) i) ⊥ (λ t. t.envelope.memory_front ≤ n))
+    step : (o : Option ℕ) → MatchOption o (Unit {0}) (λ i. MatchOption (slice_get ts i) ⊥ (λ t. t.seen ≤ n)) → MatchOption o (Unit {0}) (λ i. MatchOption (slice_get (ts ++ t ∷ []) i) ⊥ (λ t. t.seen ≤ n))
     step None m = m
     step (Some i) m = found i (slice_get ts i) refl m
 
@@ -167,6 +169,7 @@ taken_one part number whole ts t k next seen front verdict waits = record {
   left = filter-append (λ e. hand_of e == number) whole (left_by number t) ∙ (ap (λ l. l ++ entries_of hand_of number (left_by number t)) k.left
       ∙ (ap (λ l. flat_map (left_by number) ts ++ l) (own_all number (made t)) ∙ (ap (λ l. flat_map (left_by number) ts ++ l) (sym (append-nil (left_by number t))) ∙ sym (flat_map-append (left_by number) ts (t ∷ [])))));
   order = λ n e at own. placed n e own (get_append whole (left_by number t) n e at);
+  rising = λ i j u w at bt less. rise i j u w (get_snoc ts t i u at) (get_snoc ts t j w bt) less;
 }
   where
     all_seen : judged_on (whole ++ left_by number t) t ≡ events whole
@@ -200,13 +203,24 @@ taken_one part number whole ts t k next seen front verdict waits = record {
     each i u (inl e) = judged_longer part number whole (whole ++ left_by number t) u (left_by number t, refl) (k.judged i u e)
     each i u (inr e) = subst (λ (z : Taking). IsJudged part number (whole ++ left_by number t) z) e.1 the_last
 
-    past_new : (n m : ℕ) (what : MemEvent) → n ≡ length whole + m → IsOf (place_of t) what → IsPastFront (ts ++ t ∷ []) n what
+    -- what a record left stands within the whole
+    left_within : (u : Taking) → IsJudged part number whole u → u.seen + length (made u) ≤ length whole
+    left_within u j =
+        let a = ap length j.left ∙ length_left number u in let b = length-take (length (made u)) (drop u.seen whole) in let c = length-drop u.seen whole in let d = j.seen in omega arith
+
+    rise : (i j : ℕ) (u w : Taking) → (slice_get ts i ≡ Some u) ⊎ ((i ≡ length ts) × (t ≡ u)) → (slice_get ts j ≡ Some w) ⊎ ((j ≡ length ts) × (t ≡ w)) → i < j → u.seen + length (made u) ≤ w.seen
+    rise i j u w (inl a) (inl b) less = k.rising i j u w a b less
+    rise i j u w (inl a) (inr b) less = let l = left_within u (k.judged i u a) in let e = ap (λ (z : Taking). z.seen) b.1 in let s = seen in omega arith
+    rise i j u w (inr a) (inl b) less = absurd (let n = slice_get_within ts j w b in let e = a.0 in omega arith)
+    rise i j u w (inr a) (inr b) less = absurd (let e = a.0 in let f = b.0 in omega arith)
+
+    past_new : (n m : ℕ) (what : MemEvent) → n ≡ length whole + m → IsOf (place_of t) what → IsPastJudging (ts ++ t ∷ []) n what
     past_new n m what at of = step (index_of what) of
       where
-        step : (o : Option ℕ) → MatchOption o (Unit {0}) (λ j. j ≡ place_of t) → MatchOption o (Unit {0}) (λ i. MatchOption (slice_get (ts ++ t ∷ []) i) ⊥ (λ t. t.envelope.memory_front ≤ n))
+        step : (o : Option ℕ) → MatchOption o (Unit {0}) (λ j. j ≡ place_of t) → MatchOption o (Unit {0}) (λ i. MatchOption (slice_get (ts ++ t ∷ []) i) ⊥ (λ t. t.seen ≤ n))
         step None of = tt
-        step (Some i) of = subst (λ (z : Option Taking). MatchOption z ⊥ (λ t. t.envelope.memory_front ≤ n)) (sym (ap (λ j. slice_get (ts ++ t ∷ []) j) (of ∙ next) ∙ get_last ts t)) (let f = front in let s = seen in omega arith)
+        step (Some i) of = subst (λ (z : Option Taking). MatchOption z ⊥ (λ t. t.seen ≤ n)) (sym (ap (λ j. slice_get (ts ++ t ∷ []) j) (of ∙ next) ∙ get_last ts t)) (let s = seen in omega arith)
 
-    placed : (n : ℕ) (e : MemEntry) → e.hand ≡ number → (slice_get whole n ≡ Some e) ⊎ ((m : ℕ) × (n ≡ length whole + m) × (slice_get (left_by number t) m ≡ Some e)) → IsPastFront (ts ++ t ∷ []) n e.what
+    placed : (n : ℕ) (e : MemEntry) → e.hand ≡ number → (slice_get whole n ≡ Some e) ⊎ ((m : ℕ) × (n ≡ length whole + m) × (slice_get (left_by number t) m ≡ Some e)) → IsPastJudging (ts ++ t ∷ []) n e.what
     placed n e own (inl at) = past_more ts t n e.what (k.order n e at own)
     placed n e own (inr f) = past_new n f.0 e.what f.1 (left_names t.verdict (opcode (request_in t)) (place_of t) (request_in t).vmoid t.hand t.waits number f.0 e f.2)

@@ -9,16 +9,18 @@ use Rattle.host_record.specs.declared.status.Status.TheVariants as status
 use Rattle.host_group.specs.Ends.{greatest}
 use Rattle.host_model.specs.declared.row.TakenRow.{TakenRow}
 use Rattle.host_model.specs.declared.verdict.Verdict.{Verdict}
-use Rattle.host_model.specs.Lists.{below, count, last}
+use Rattle.host_model.specs.Lists.{all_with_before, below, count, last}
+use Rattle.host_model.proofs.Growth.{all_with_before-push}
+use Rattle.host_model.proofs.ListTests.{and-from}
 use Rattle.host_rings.specs.declared.envelope.Envelope.{Envelope}
 use Rattle.host_rings.specs.declared.slip.Slip.{Slip}
 use Rattle.host_memory.proofs.Pushed.{filter_map_skip, filter_map_add, count_skip}
 use Rattle.host_intake.specs.declared.entry.IntakeEntry.{IntakeEntry}
 use Rattle.host_intake.specs.declared.entry.IntakeEntry.TheVariants.{Took}
 use Rattle.host_intake.specs.declared.entry.Phase.{Phase}
-use Rattle.host_intake.specs.declared.entry.Phase.TheVariants.{Running, Closed}
+use Rattle.host_intake.specs.declared.entry.Phase.TheVariants.{Running, Draining, Aborted, Closed}
 use Rattle.host_intake.specs.Entries.{Taking, Landing, taking_of, landing_of, takings, landings, is_landing_of, place_of}
-use Rattle.host_intake.specs.Ledgers.{IsLedger, is_before, is_course, is_last_turn, is_shut}
+use Rattle.host_intake.specs.Ledgers.{IsLedger, is_before, is_course, is_last_turn, is_shut, is_taken_open}
 use Rattle.host_intake.specs.Told.{is_open, flights_in, turn_of, turns, kept_by, is_passed, kept_slips, phase_in, was_aborted, is_aborted, seen_of, row_in, is_ending}
 use Rattle.host_intake.proofs.Counting.{count_more, below_more}
 use Rattle.host_intake.proofs.Pushing.{parts_of, kept_few}
@@ -70,6 +72,12 @@ course_few [] h = omega arith
 course_few (p ∷ []) h = omega arith
 course_few (p ∷ q ∷ []) h = omega arith
 course_few (p ∷ q ∷ r ∷ ps) h = absurd (let a = and_right (is_ending p) (is_last_turn (q ∷ r ∷ ps)) h in let b = and_right (is_shut q) false a in cc)
+
+unclosed : (p : Phase) → (p ≡ Closed → ⊥) → not (is_shut p) ≡ true
+unclosed Running h = refl
+unclosed Draining h = refl
+unclosed Aborted h = refl
+unclosed Closed h = absurd (h refl)
 
 -- what is kept depends on these three alone
 pub kept_from : (es fs : List IntakeEntry) → turns fs ≡ turns es → count is_passed fs ≡ count is_passed es → filter_map kept_by fs ≡ filter_map kept_by es → kept_slips fs ≡ kept_slips es
@@ -138,6 +146,7 @@ module _ (room : ℕ) (l : WithRoom IntakeEntry) (phase : Phase) (flights : ℕ)
         passed = subst (λ (z : ℕ). z ≤ length (filter_map kept_by (es ++ x ∷ []))) (sym passed) (subst (λ (z : List Slip). count is_passed es ≤ length z) (sym slips) p);
         phase_is = k.phase_is ∙ sym ph;
         over = λ c. absurd (unshut (sym ph ∙ c));
+        before_close = all_with_before-push is_taken_open es x ∙ and-from (all_with_before is_taken_open es) (is_taken_open es x) k.before_close (unclosed (phase_in es) unshut);
         flights_are = subst (λ (z : List Landing). flights + 1 + length z ≡ length (takings (es ++ x ∷ []))) (sym ls) (subst (λ (m : ℕ). flights + 1 + length (landings es) ≡ m) (sym n) (omega arith));
         kept_are = k.kept_are ∙ sym (kept_from es (es ++ x ∷ []) ps passed slips);
         limit = omega arith;

@@ -1,11 +1,14 @@
 pub mod Accepting
 pub mod Admitting
 pub mod Answering
+pub mod Attached
 pub mod Beginning
 pub mod Counting
 pub mod Courses
+pub mod EndAnswers
 pub mod Ended
 pub mod Ending
+pub mod Flying
 pub mod HeldTaken
 pub mod Judging
 pub mod Keeping
@@ -22,3 +25,4 @@ pub mod Removing
 pub mod Stalling
 pub mod TakeHeld
 pub mod Turning
+pub mod Verdicts

@@ -54,7 +54,7 @@ module _ {A : Type 0} where
   get_or_last [] x d = refl
   get_or_last (y ∷ ys) x d = get_or_last ys x d
 
-  take_next : (n : ℕ) (xs : List A) (d : A) → n < length xs → take (suc n) xs ≡ take n xs ++ get_or xs n d ∷ []
+  pub take_next : (n : ℕ) (xs : List A) (d : A) → n < length xs → take (suc n) xs ≡ take n xs ++ get_or xs n d ∷ []
   take_next n [] d h = absurd (omega arith)
   take_next zero (x ∷ xs) d h = ap (λ l. x ∷ l) refl
   take_next (suc n) (x ∷ xs) d h = ap (λ l. x ∷ l) (take_next n xs d (omega arith))

@@ -27,7 +27,7 @@ use Rattle.host_memory.specs.Pins.{is_pin_for}
 use Rattle.host_memory.specs.State.{events}
 use Rattle.host_turn.specs.History.{entries_of}
 use Rattle.host_intake.specs.Entries.{Taking, place_of, request_in}
-use Rattle.host_intake.specs.Takings.{AreTaken, IsPastFront, left_by, made, made_for, made_under, under}
+use Rattle.host_intake.specs.Takings.{AreTaken, IsPastJudging, left_by, made, made_for, made_under, under}
 use Rattle.host_intake.specs.Touching.{IsReady}
 use Rattle.host_intake.proofs.Judging.{hand_of}
 use Rattle.host_intake.proofs.Ledgering.{and_left, and_right}
@@ -45,7 +45,7 @@ none_counted p [] h = refl
 none_counted p (e ∷ es) h = ap (λ b. length (cond b (e.what ∷ filter p (events es)) (filter p (events es)))) (h 0 e refl) ∙ none_counted p es (λ n x at. h (suc n) x at)
 
 -- where the first entry of a kind stands
-first_found : (f : MemEvent → Option ℕ) (w : List MemEntry) (j : ℕ) → slice_get (filter_map f (events w)) 0 ≡ Some j → (n : ℕ) × (e : MemEntry) × (slice_get w n ≡ Some e) × (f e.what ≡ Some j)
+pub first_found : (f : MemEvent → Option ℕ) (w : List MemEntry) (j : ℕ) → slice_get (filter_map f (events w)) 0 ≡ Some j → (n : ℕ) × (e : MemEntry) × (slice_get w n ≡ Some e) × (f e.what ≡ Some j)
 first_found f [] j h = absurd (cc)
 first_found f (e ∷ es) j h = step (f e.what) refl h (λ g. first_found f es j g)
   where
@@ -58,15 +58,15 @@ first_found f (e ∷ es) j h = step (f e.what) refl h (λ g. first_found f es j 
 -- ---- the entries of the admissions
 
 module _ (part : Range) (client number : ℕ) (whole : List MemEntry) (ts : List Taking) (k : AreTaken part number whole ts) (numbered : list_all (is_numbered client number) whole ≡ true) where
-  taken_before : (n j : ℕ) → MatchOption (slice_get ts j) ⊥ (λ t. t.envelope.memory_front ≤ n) → j < length ts
+  taken_before : (n j : ℕ) → MatchOption (slice_get ts j) ⊥ (λ t. t.seen ≤ n) → j < length ts
   taken_before n j m = step (slice_get ts j) refl m
     where
-      step : (o : Option Taking) → slice_get ts j ≡ o → MatchOption o ⊥ (λ t. t.envelope.memory_front ≤ n) → j < length ts
+      step : (o : Option Taking) → slice_get ts j ≡ o → MatchOption o ⊥ (λ t. t.seen ≤ n) → j < length ts
       step None e m = absurd m
       step (Some t) e m = slice_get_within ts j t e
 
   -- a pin and a close are of records that were taken
-  past_at : (n : ℕ) (e : MemEntry) → slice_get whole n ≡ Some e → e.hand ≡ number → IsPastFront ts n e.what
+  past_at : (n : ℕ) (e : MemEntry) → slice_get whole n ≡ Some e → e.hand ≡ number → IsPastJudging ts n e.what
   past_at n e at own = k.order n e at own
 
   numbered_at : (n : ℕ) (e : MemEntry) → slice_get whole n ≡ Some e → is_numbered client number e ≡ true

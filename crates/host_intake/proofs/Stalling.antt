@@ -35,10 +35,10 @@ some_from f a (suc n) h = step (f a) refl h (λ g. some_from f (a + 1) n g)
     step false e h more = let r = more h in (r.0, (let b = r.1 in omega arith), r.2)
 
 module _ (g j : ℕ) where
-  abbrev in_instance : Member → Bool
+  abbrev pub in_instance : Member → Bool
   in_instance m = m.number == g && m.instance == j
 
-  abbrev is_of : List Request → ℕ → Bool
+  abbrev pub is_of : List Request → ℕ → Bool
   is_of rs i = option_map_or in_instance (member_at rs i) false
 
   count_one : {A : Type 0} (m : Member) (x : A) (l : List A) (n : ℕ) → n ≡ length l → is_in g j m + n ≡ length (cond (in_instance m) (x ∷ l) l)
@@ -64,7 +64,7 @@ module _ (g j : ℕ) where
       count_one r.member r (filter (λ (q : Row). is_of rs q.member.index) l) (row_count g j l) (rows_counted rs l (λ k q e. h (suc k) q e))
       ∙ ap (λ (o : Option Member). length (cond (option_map_or in_instance o false) (r ∷ filter (λ (q : Row). is_of rs q.member.index) l) (filter (λ (q : Row). is_of rs q.member.index) l))) (sym (h 0 r refl))
 
-  of_member : (rs : List Request) (i : ℕ) → (is_of rs i && is_member_at rs i) ≡ is_of rs i
+  pub of_member : (rs : List Request) (i : ℕ) → (is_of rs i && is_member_at rs i) ≡ is_of rs i
   of_member rs i = let r = request_at rs i in step (is_member r) (member r.group (closings r.group (take i rs)) i r.reqid (is_last r))
     where
       and_true : (b : Bool) → (b && true) ≡ b
@@ -75,7 +75,7 @@ module _ (g j : ℕ) where
       step true m = and_true (in_instance m)
       step false m = refl
 
-  of_instance : (rs : List Request) (i : ℕ) → is_of rs i ≡ true → instance_of rs i ≡ Some (g, j)
+  pub of_instance : (rs : List Request) (i : ℕ) → is_of rs i ≡ true → instance_of rs i ≡ Some (g, j)
   of_instance rs i e = let r = request_at rs i in step (is_member r) r.group (closings r.group (take i rs)) r.reqid (is_last r) e
     where
       step : (b : Bool) (h c q : ℕ) (l : Bool) → option_map_or in_instance (cond b (Some (member h c i q l)) None) false ≡ true → cond {A = Option (ℕ × ℕ)} b (Some (h, c)) None ≡ Some (g, j)

@@ -6,7 +6,9 @@ use Rattle.std.proofs.lemmas.List.Folds.{list_any-append}
 use Rattle.host_block.specs.Room.{WithRoom}
 use Rattle.host_group.specs.Ends.{greatest}
 use Rattle.host_model.specs.declared.row.TakenRow.{TakenRow}
-use Rattle.host_model.specs.Lists.{below, count, last}
+use Rattle.host_model.specs.Lists.{all_with_before, below, count, last}
+use Rattle.host_model.proofs.Growth.{all_with_before-push}
+use Rattle.host_model.proofs.ListTests.{and-from}
 use Rattle.host_rings.specs.declared.slip.Slip.{Slip}
 use Rattle.host_memory.proofs.Pushed.{filter_map_skip, filter_map_add, count_skip, count_add, last_snoc}
 use Rattle.host_intake.specs.declared.entry.IntakeEntry.{IntakeEntry}
@@ -14,7 +16,7 @@ use Rattle.host_intake.specs.declared.entry.IntakeEntry.TheVariants.{Passed, Tur
 use Rattle.host_intake.specs.declared.entry.Phase.{Phase}
 use Rattle.host_intake.specs.declared.entry.Phase.TheVariants.{Running, Closed}
 use Rattle.host_intake.specs.Entries.{Taking, Landing, taking_of, landing_of, takings, landings, place_of}
-use Rattle.host_intake.specs.Ledgers.{IsLedger, is_before, is_course}
+use Rattle.host_intake.specs.Ledgers.{IsLedger, is_before, is_course, is_taken_open}
 use Rattle.host_intake.specs.Told.{is_open, flights_in, turn_of, turns, kept_by, is_passed, kept_slips, phase_in, was_aborted, is_aborted, row_in, seen_of}
 use Rattle.host_intake.proofs.Pushing.{kept_few}
 use Rattle.host_intake.proofs.Ledgering.{course_few, phase_from, room_for, ended_few}
@@ -56,6 +58,7 @@ module _ (room : ℕ) (l : WithRoom IntakeEntry) (phase : Phase) (flights : ℕ)
           passed = subst (λ (z : List Slip). count is_passed (es ++ e ∷ []) ≤ length z) (sym slips) (omega arith);
           phase_is = k.phase_is ∙ sym ph;
           over = λ c. k.over (sym ph ∙ c);
+          before_close = all_with_before-push is_taken_open es e ∙ and-from (all_with_before is_taken_open es) (is_taken_open es e) k.before_close refl;
           flights_are = subst (λ (z : List Landing). flights + length z ≡ length (takings (es ++ e ∷ []))) (sym ls) (subst (λ (z : List Taking). flights + length (landings es) ≡ length z) (sym ts) k.flights_are);
           kept_are = ap (λ (z : List Slip). drop 1 z) k.kept_are ∙ (sym step.1
               ∙ (ap (λ n. cond (was_aborted es) [] (drop n (filter_map kept_by es))) (sym passed)
@@ -99,6 +102,7 @@ module _ (room : ℕ) (l : WithRoom IntakeEntry) (phase : Phase) (flights : ℕ)
           passed = subst (λ (z : ℕ). z ≤ length (filter_map kept_by (es ++ e ∷ []))) (sym passed) (subst (λ (z : List Slip). count is_passed es ≤ length z) (sym answers) k.passed);
           phase_is = sym ph;
           over = λ c. shut (sym ph ∙ c);
+          before_close = all_with_before-push is_taken_open es e ∙ and-from (all_with_before is_taken_open es) (is_taken_open es e) k.before_close refl;
           flights_are = subst (λ (z : List Landing). flights + length z ≡ length (takings (es ++ e ∷ []))) (sym ls) (subst (λ (z : List Taking). flights + length (landings es) ≡ length z) (sym ts) k.flights_are);
           kept_are = are ∙ (ap (λ (a : List Phase). cond (list_any is_aborted a) [] (drop (count is_passed es) (filter_map kept_by es))) (sym ps)
               ∙ (ap (λ n. cond (was_aborted (es ++ e ∷ [])) [] (drop n (filter_map kept_by es))) (sym passed) ∙ ap (λ z. cond (was_aborted (es ++ e ∷ [])) [] (drop (count is_passed (es ++ e ∷ [])) z)) (sym answers)));

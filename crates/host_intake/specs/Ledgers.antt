@@ -3,9 +3,10 @@ use Rattle.std.specs.Prelude.{◌≡◌, ℕ, ◌+◌, ◌*◌, ◌≤◌, Bool,
 use Rattle.std.specs.List.{list_all}
 use Rattle.host_block.specs.Room.{WithRoom}
 use Rattle.host_model.specs.declared.row.TakenRow.{TakenRow}
-use Rattle.host_model.specs.Lists.{below, count, is_nil}
+use Rattle.host_model.specs.Lists.{all_with_before, below, count, is_nil}
 use Rattle.host_rings.specs.declared.slip.Slip.{Slip}
 use Rattle.host_intake.specs.declared.entry.IntakeEntry.{IntakeEntry}
+use Rattle.host_intake.specs.declared.entry.IntakeEntry.TheVariants.{Took}
 use Rattle.host_intake.specs.declared.entry.Phase.{Phase}
 use Rattle.host_intake.specs.declared.entry.Phase.TheVariants.{Closed}
 use Rattle.host_intake.specs.Entries.{Landing, takings, landings, place_of}
@@ -34,6 +35,11 @@ abbrev pub is_course : List Phase → Bool
 is_course [] = true
 is_course (p ∷ ps) = is_ending p && is_last_turn ps
 
+-- a record is taken only before the session is closed
+abbrev pub is_taken_open : List IntakeEntry → IntakeEntry → Bool
+is_taken_open before (Took hand envelope verdict waits seen) = not (is_shut (phase_in before))
+is_taken_open before _ = true
+
 -- the record that ended is one of the first n
 abbrev pub is_before : ℕ → Landing → Bool
 is_before n l = nat_lt l.index n
@@ -49,6 +55,7 @@ pub record IsLedger (room : ℕ) (l : WithRoom IntakeEntry) (phase : Phase) (fli
   pub passed : count is_passed l.items ≤ length (filter_map kept_by l.items)
   pub phase_is : phase ≡ phase_in l.items
   pub over : phase_in l.items ≡ Closed → flights ≡ 0
+  pub before_close : IsTrue (all_with_before is_taken_open l.items)
   pub flights_are : flights + length (landings l.items) ≡ length (takings l.items)
   pub kept_are : kept ≡ kept_slips l.items
   pub limit : flights + length kept ≤ 64

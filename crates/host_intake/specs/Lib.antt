@@ -3,6 +3,7 @@ pub mod Answers
 pub mod Entries
 pub mod IntakeFields
 pub mod Intaken
+pub mod Laws
 pub mod Ledgers
 pub mod Members
 pub mod Rights

@@ -1,5 +1,5 @@
 -- What taking a record does: its verdict, and what it leaves in the buffer history.
-use Rattle.std.specs.Prelude.{◌≡◌, ℕ, ◌≤◌, Bool, true, false, not, ◌==◌, ◌&&◌, List, [], ◌∷◌, map, length, take, drop, flat_map, slice_get, Option, Some, MatchOption}
+use Rattle.std.specs.Prelude.{◌≡◌, ℕ, ◌+◌, ◌<◌, ◌≤◌, Bool, true, false, not, ◌==◌, ◌&&◌, List, [], ◌∷◌, map, length, take, drop, flat_map, slice_get, Option, Some, MatchOption}
 use Rattle.host_block.specs.declared.range.Range.{Range}
 use Rattle.host_record.specs.declared.opcode.Opcode.{Opcode}
 use Rattle.host_record.specs.declared.opcode.Opcode.TheVariants.{Read, Write, Close}
@@ -57,16 +57,18 @@ pub record IsJudged (part : Range) (number : ℕ) (whole : List MemEntry) (t : T
   pub waits : t.waits ≡ (is_accepted t.verdict && is_close (opcode (request_in t)) && not (pins_on (request_in t).vmoid (judged_on whole t) == 0))
   pub left : take (length (made t)) (drop t.seen whole) ≡ left_by number t
 
--- an entry that was made for a record stands, at place n, not below the memory front of that record's envelope, and the
--- record is one of these
-abbrev pub IsPastFront : List Taking → ℕ → MemEvent → Type 0
-IsPastFront ts n e = MatchOption (index_of e) (Unit {0}) (λ i. MatchOption (slice_get ts i) ⊥ (λ t. t.envelope.memory_front ≤ n))
+-- an entry that was made for a record stands, at place n, not within the beginning on which that record was judged, and
+-- the record is one of these
+abbrev pub IsPastJudging : List Taking → ℕ → MemEvent → Type 0
+IsPastJudging ts n e = MatchOption (index_of e) (Unit {0}) (λ i. MatchOption (slice_get ts i) ⊥ (λ t. t.seen ≤ n))
 
 -- The records taken have the indexes 0, 1, 2 and so on, and were judged one by one. The entries of the admissions are
--- those that taking them left, in order; and each pin and each close stands at a place not below the memory front of
--- its record's envelope.
+-- those that taking them left, in order. Each pin and each close stands at a place not below the beginning on which its
+-- record was judged, and so not below the memory front of its record's envelope; and what an earlier record left stands
+-- within the beginning on which a later one was judged.
 pub record AreTaken (part : Range) (number : ℕ) (whole : List MemEntry) (ts : List Taking) : Type 0 where
   pub indexes : map place_of ts ≡ below (length ts)
   pub judged : (i : ℕ) (t : Taking) → slice_get ts i ≡ Some t → IsJudged part number whole t
   pub left : entries_of (λ e. e.hand) number whole ≡ flat_map (left_by number) ts
-  pub order : (n : ℕ) (e : MemEntry) → slice_get whole n ≡ Some e → e.hand ≡ number → IsPastFront ts n e.what
+  pub order : (n : ℕ) (e : MemEntry) → slice_get whole n ≡ Some e → e.hand ≡ number → IsPastJudging ts n e.what
+  pub rising : (i k : ℕ) (t u : Taking) → slice_get ts i ≡ Some t → slice_get ts k ≡ Some u → i < k → t.seen + length (made t) ≤ u.seen

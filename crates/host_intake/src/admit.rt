@@ -9,7 +9,9 @@ ghost use Rattle.host_group.specs.Views.{closings, fresh_row};
 ghost use Rattle.host_rings.specs.RequestEnds.{FoundEmpty};
 ghost use Rattle.host_turn.specs.History.{Adds, Continues};
 ghost use Rattle.host_turn.specs.Seats.{IsOutside, IsSameSeat, IsSeatOutside, book_id, number, seat_book, seen_by};
-ghost use Rattle.host_intake.specs.Admissions.{FoundNone, IsAdmission, IsMemberAdmitted, IsOpen, IsTakenOrStalled, answer_of};
+ghost use Rattle.host_intake.specs.declared.entry.IntakeEntry.TheVariants.{Took};
+ghost use Rattle.host_intake.specs.declared.entry.Phase.TheVariants.{Closed};
+ghost use Rattle.host_intake.specs.Admissions.{FoundNone, IsAdmission, IsMemberAdmitted, IsOpen, IsTakenOrStalled, answer_of, load_in};
 ghost use Rattle.host_intake.specs.Entries.{maker_of, takings};
 ghost use Rattle.host_intake.specs.State.{plan_of};
 ghost use Rattle.host_intake.specs.Told.{is_over, phase_in};
@@ -17,8 +19,8 @@ ghost use Rattle.host_intake.specs.Told.{is_over, phase_in};
 use crate::admission::Admission;
 use crate::entry::Phase;
 use crate::intake::Intake;
-use crate::judge::judge_next;
-use crate::ledger::LIMIT;
+use crate::judge::{Judged, judge_next};
+use crate::ledger::Ledger;
 use crate::waiting::Waiting;
 use host_frames::Pages;
 use host_group::{CellBusy, CellSeat, Cells};
@@ -51,7 +53,7 @@ impl Intake {
         if self.is_over() {
             return Admission::Finished;
         }
-        if self.ledger.flights() + self.ledger.kept() >= LIMIT {
+        if self.ledger.is_full() {
             return Admission::AtLimit;
         }
         match self.hold_next(rt) {
@@ -116,9 +118,7 @@ impl Intake {
             &envelope,
         );
         book.meet(&mut self.memory_seat, seat);
-        self.held = None;
-        self.ledger
-            .take(hand, envelope, judged.verdict, judged.waits, judged.seen);
+        take_in(&mut self.held, &mut self.ledger, hand, envelope, &judged);
         if judged.waits {
             self.waiting.push_reserved(Waiting { envelope, right });
             return Admission::Admitted {
@@ -129,6 +129,25 @@ impl Intake {
         }
         answer(judged.verdict, envelope, judged.pages, right)
     }
+}
+
+// The record is held no more, and that it was taken stands last in the history.
+fn take_in(
+    held: &mut Option<Envelope>,
+    ledger: &mut Ledger,
+    hand: u32,
+    envelope: Envelope,
+    judged: &Judged,
+)
+    requires index { envelope.index ≡ length (takings ledger.old.entries) }
+    requires room { length (takings ledger.old.entries) < ledger.old.room }
+    requires limit { load_in ledger.old.entries < 64 }
+    requires phase { phase_in ledger.old.entries ≡ Closed → ⊥ }
+    ensures held { held.new ≡ None }
+    ensures ledger { ledger.new ≡ record ledger.old { entries = ledger.old.entries ++ Took hand envelope judged.now.verdict judged.now.waits judged.now.seen ∷ [] } }
+{
+    *held = None;
+    ledger.take(hand, envelope, judged.verdict, judged.waits, judged.seen);
 }
 
 fn answer(

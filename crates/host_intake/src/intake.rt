@@ -1,10 +1,12 @@
 //! The state of one session's intake.
-ghost use Rattle.std.specs.Prelude.{◌≡◌, ◌≤◌, [], None, length, IfOk};
+ghost use Rattle.std.specs.Prelude.{◌≡◌, ◌≤◌, [], None, length, IfOk, IsTrue};
+ghost use Rattle.host_model.specs.Lists.{all_with_before};
 ghost use Rattle.host_group.specs.Seats.{IsAdmittingOf, IsNoneOut, seat_cells, admitted, back, next};
 ghost use Rattle.host_turn.specs.Seats.{IsOutside, own_entries};
 ghost use Rattle.host_intake.specs.declared.entry.Phase.TheVariants.{Closed};
 ghost use Rattle.host_intake.specs.Entries.{maker_of, takings};
 ghost use Rattle.host_intake.specs.Intaken.{IsIntake};
+ghost use Rattle.host_intake.specs.Ledgers.{is_taken_open};
 ghost use Rattle.host_intake.specs.State.{IsForAdmissions, plan_of};
 ghost use Rattle.host_intake.specs.Told.{flights_in, kept_slips, memory_front_in, phase_in, rows_in};
 
@@ -156,6 +158,7 @@ impl Intake {
         ensures cell_seat { result.cell_seat ≡ self.cell_seat }
         ensures none_out { IsNoneOut result.cell_seat }
         ensures whole { IsIntake self }
+        ensures before_close { IsTrue (all_with_before is_taken_open self.entries) }
     {
         let Intake {
             ledger,

@@ -4,7 +4,8 @@ ghost use Rattle.std.specs.VecDeque.{deque_capacity, deque_len};
 ghost use Rattle.host_intake.specs.declared.entry.IntakeEntry.TheVariants.{Took, Landed, Passed, Turned};
 ghost use Rattle.host_intake.specs.declared.entry.Phase.TheVariants.{Aborted, Closed};
 ghost use Rattle.host_intake.specs.Entries.{takings, landings};
-ghost use Rattle.host_intake.specs.Ledgers.{is_course, slips_to_keep};
+ghost use Rattle.host_intake.specs.Ledgers.{is_course, is_taken_open, slips_to_keep};
+ghost use Rattle.host_model.specs.Lists.{all_with_before};
 ghost use Rattle.host_intake.specs.Told.{is_aborted, phase_in, turns, flights_in, kept_slips, is_flying, memory_front_in, rows_in};
 
 use crate::entry::{IntakeEntry, Phase, RecordEnd};
@@ -98,6 +99,14 @@ impl Ledger {
         ensures { result ≡ length (kept_slips self.now.entries) }
     {
         self.kept.len() as u32
+    }
+
+    /// Whether as many records are in flight, or answers kept, as there may be.
+    pub(crate) fn is_full(&self) -> bool
+        ensures full { result ≡ true → flights_in self.now.entries + length (kept_slips self.now.entries) ≡ 64 }
+        ensures room { result ≡ false → flights_in self.now.entries + length (kept_slips self.now.entries) < 64 }
+    {
+        self.flights + self.kept.len() as u32 >= LIMIT
     }
 
     pub(crate) fn memory_front(&self) -> u64
@@ -203,7 +212,8 @@ impl Ledger {
 
     /// The rows of the records taken, by their index.
     pub(crate) fn into_rows(self) -> TakenRows
-        ensures { result.items ≡ rows_in self.entries }
+        ensures rows { result.items ≡ rows_in self.entries }
+        ensures before_close { IsTrue (all_with_before is_taken_open self.entries) }
     {
         let Ledger { rows, ending, .. } = self;
         with_rows(ending, rows)

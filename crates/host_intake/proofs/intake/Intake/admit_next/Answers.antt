@@ -1,13 +1,12 @@
-use Rattle.std.proofs.Common.{◌<◌, sym, subst, ◌∙◌, arith}
+use Rattle.std.proofs.Common.{◌<◌, sym, subst, ◌∙◌}
 use Rattle.host_intake.specs.Admissions.{IsOpen, IsTakenOrStalled, load_in}
-use Rattle.host_intake.specs.IntakeFields.{intake_state}
 use Rattle.host_intake.specs.State.{IntakeState}
 use Rattle.host_intake.proofs.NextAnswer.{answer_next, first_is}
 use Rattle.host_intake.proofs.intake.Intake.admit_next.Goals as goal
 
 pub returns-in-Some-clause-answer : goal.returns-in-Some-clause-answer
 returns-in-Some-clause-answer g c = let s = c.args.self.now in
-    let few : load_in (intake_state c.self.inside).entries < 64 = (let f = c.flights.ensures in let k = c.kept.ensures in let l = c.if-flights-kept-ge-LIMIT.false in omega arith) in
+    let few = c.is_full.ensures.room c.if-is_full.false in
     let still : IsOpen s = (sym c.is_over.ensures ∙ c.if-is_over.false, subst (λ (o : IntakeState). load_in o.entries < 64) c.self.view_is few) in
     let h = c.hold_next.new.self in let e = c.in-Some.envelope in
     let first = first_is s h e c.hold_next.ensures.first c.in-Some.ensures.none in

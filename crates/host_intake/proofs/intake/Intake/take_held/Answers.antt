@@ -1,4 +1,4 @@
-use Rattle.std.proofs.Common.{◌≡◌, ℕ, ◌≤◌, Bool, true, false, List, [], ◌∷◌, ◌++◌, length, Some, None, refl, sym, ap, subst, ◌∙◌, arith, length-append}
+use Rattle.std.proofs.Common.{◌≡◌, ℕ, ◌≤◌, Bool, true, false, List, [], ◌∷◌, ◌++◌, length, Option, Some, None, refl, sym, ap, subst, ◌∙◌, arith, length-append}
 use Rattle.atomic_table.specs.Seated.{TableId}
 use Rattle.host_record.specs.declared.request.Request.{Request}
 use Rattle.host_model.specs.Groups.{is_member}
@@ -8,6 +8,7 @@ use Rattle.host_group.specs.Steps.{IsBusy}
 use Rattle.host_memory.proofs.Pushed.{filter_map_add}
 use Rattle.host_turn.proofs.Histories.{prefix_refl}
 use Rattle.host_turn.specs.Seats.{number, seen_by}
+use Rattle.host_rings.specs.declared.envelope.Envelope.{Envelope}
 use Rattle.host_intake.specs.declared.admission.Admission.{Admission}
 use Rattle.host_intake.specs.declared.waiting.Waiting.{Waiting}
 use Rattle.host_intake.specs.Admissions.{IsAdmitted, IsOpen, IsRightOut, IsStalled, IsTakenOrStalled, entry_for}
@@ -68,8 +69,8 @@ judge_next-judged-requires-clause-room g c =
     let goes = subst (λ (o : IntakeState). IsOpen o) (sym c.self.view_is) c.requires.still in
     room_next s k e held goes
 
-pub take-requires-clause-room : goal.take-requires-clause-room
-take-requires-clause-room g c =
+pub take_in-requires-clause-room : goal.take_in-requires-clause-room
+take_in-requires-clause-room g c =
     let a = c.self.inside in let s = intake_state a in let k = c.self.invariant.0 in let e = c.args.envelope in
     let held = subst (λ (o : IntakeState). o.held ≡ Some e) (sym c.self.view_is) c.requires.held in
     let goes = subst (λ (o : IntakeState). IsOpen o) (sym c.self.view_is) c.requires.still in
@@ -97,9 +98,10 @@ invariant_of-self-then-judged g c =
     let in_cells = cells_given s k e held goes t refl c.args.cells.now q c.from_bytes-request.result c.from_bytes-request.ensures.fields c.in-Ok.right c.in-Ok.ensures.right (refl, admits.1, admits.2, admits.3) c.admit_member.ensures.seat.1 in
     let right = subst (λ (z : TableId). HasRight z (ts ++ t ∷ []) t c.in-Ok.right) (sym mine) (right_given s k e held goes t refl c.args.cells.now q c.from_bytes-request.result c.from_bytes-request.ensures.fields c.in-Ok.right c.in-Ok.ensures.right) in
     let waits = waiting_one ts ls t k.landed (seat_cells s.cell_seat) s.waiting c.in-Ok.right k.waiting (index_next s k e held goes) c.if-judged.true right in (
-      subst (λ (z : LedgerState). IsIntake (record s { room = z.room; entries = z.entries; held = None; waiting = c.push_reserved.new.self.items; memory_seat = m; cell_seat = q })) (sym c.take.ensures)
+      subst (λ (o : Option Envelope). IsIntake (record s { room = c.take_in.new.ledger.room; entries = c.take_in.new.ledger.entries; held = o; waiting = c.push_reserved.new.self.items; memory_seat = m; cell_seat = q })) (sym c.take_in.ensures.held)
+          (subst (λ (z : LedgerState). IsIntake (record s { room = z.room; entries = z.entries; held = None; waiting = c.push_reserved.new.self.items; memory_seat = m; cell_seat = q })) (sym c.take_in.ensures.ledger)
           (subst (λ (w : List Waiting). IsIntake (record s { entries = s.entries ++ entry_for t ∷ []; held = None; waiting = w; memory_seat = m; cell_seat = q })) (sym c.push_reserved.ensures.items)
-          (intake_taken s k e held goes t refl m q _ rests (c.meet.ensures.from.0.2 ∙ c.judge_next-judged.ensures.seat.0.2) took (admits.0 ∙ sym mine) in_cells waits)),
+          (intake_taken s k e held goes t refl m q _ rests (c.meet.ensures.from.0.2 ∙ c.judge_next-judged.ensures.seat.0.2) took (admits.0 ∙ sym mine) in_cells waits))),
       subst (λ (z : ℕ). 64 ≤ z) (sym c.push_reserved.ensures.capacity) c.self.invariant.1,
     )
 
@@ -111,8 +113,8 @@ returns-then-judged-clause-answer g c =
     let t : Taking = record { hand = c.args.hand; envelope = e; verdict = c.judge_next-judged.result.verdict; waits = c.judge_next-judged.result.waits; seen = c.judge_next-judged.result.seen } in
     let from = c.judge_next-judged.new.seat in let to = c.meet.new.to in
     let known = judged_told s.part (number s.memory_seat) (seen_by from) (seen_by to) (takings s.entries) t c.judge_next-judged.ensures.taken c.meet.ensures.told in
-    let new = record s { room = c.take.new.self.room; entries = c.take.new.self.entries; held = None; waiting = c.push_reserved.new.self.items; memory_seat = c.meet.new.from; cell_seat = c.admit_member.new.seat } in
-    let has = has_taken s k e held goes new to t refl (ap (λ (z : LedgerState). z.entries) c.take.ensures) refl known in (
+    let new = record s { room = c.take_in.new.ledger.room; entries = c.take_in.new.ledger.entries; held = c.take_in.new.held; waiting = c.push_reserved.new.self.items; memory_seat = c.meet.new.from; cell_seat = c.admit_member.new.seat } in
+    let has = has_taken s k e held goes new to t refl (ap (λ (z : LedgerState). z.entries) c.take_in.ensures.ledger) c.take_in.ensures.held known in (
       refl,
       subst (λ (o : IntakeState). (x : Taking) × IsAdmitted c.args.hand o new to e None None x) c.self.view_is
           (told_waiting c.args.hand s new to e t s.part (number s.memory_seat) has refl known c.if-judged.true (ap length c.push_reserved.ensures.items ∙ length-append s.waiting _)),
@@ -132,8 +134,9 @@ invariant_of-self-else-judged g c =
     let in_cells = cells_given s k e held goes t refl c.args.cells.now q c.from_bytes-request.result c.from_bytes-request.ensures.fields c.in-Ok.right c.in-Ok.ensures.right (refl, admits.1, admits.2, admits.3) c.admit_member.ensures.seat.1 in
     let right = subst (λ (z : TableId). HasRight z (ts ++ t ∷ []) t c.in-Ok.right) (sym mine) (right_given s k e held goes t refl c.args.cells.now q c.from_bytes-request.result c.from_bytes-request.ensures.fields c.in-Ok.right c.in-Ok.ensures.right) in
     let waits = waiting_taken ts ls t k.landed (seat_cells s.cell_seat) s.waiting k.waiting in (
-      subst (λ (z : LedgerState). IsIntake (record s { room = z.room; entries = z.entries; held = None; memory_seat = m; cell_seat = q })) (sym c.take.ensures)
-          (intake_taken s k e held goes t refl m q s.waiting rests (c.meet.ensures.from.0.2 ∙ c.judge_next-judged.ensures.seat.0.2) took (admits.0 ∙ sym mine) in_cells waits),
+      subst (λ (o : Option Envelope). IsIntake (record s { room = c.take_in.new.ledger.room; entries = c.take_in.new.ledger.entries; held = o; memory_seat = m; cell_seat = q })) (sym c.take_in.ensures.held)
+          (subst (λ (z : LedgerState). IsIntake (record s { room = z.room; entries = z.entries; held = None; memory_seat = m; cell_seat = q })) (sym c.take_in.ensures.ledger)
+          (intake_taken s k e held goes t refl m q s.waiting rests (c.meet.ensures.from.0.2 ∙ c.judge_next-judged.ensures.seat.0.2) took (admits.0 ∙ sym mine) in_cells waits)),
       c.self.invariant.1,
     )
 
@@ -147,11 +150,11 @@ returns-clause-answer g c =
     let from = c.judge_next-judged.new.seat in let to = c.meet.new.to in let ts = takings s.entries in let q = c.admit_member.new.seat in
     let known = judged_told s.part (number s.memory_seat) (seen_by from) (seen_by to) ts t c.judge_next-judged.ensures.taken c.meet.ensures.told in
     let was = judged_told s.part (number s.memory_seat) (seen_by from) (seen_by from) ts t c.judge_next-judged.ensures.taken (prefix_refl (seen_by from)) in
-    let new : IntakeState = record s { room = c.take.new.self.room; entries = c.take.new.self.entries; held = None; memory_seat = c.meet.new.from; cell_seat = q } in
-    let entries : c.take.new.self.entries ≡ s.entries ++ entry_for t ∷ [] = ap (λ (z : LedgerState). z.entries) c.take.ensures in
-    let has = has_taken s k e held goes new to t refl entries refl known in
+    let new : IntakeState = record s { room = c.take_in.new.ledger.room; entries = c.take_in.new.ledger.entries; held = c.take_in.new.held; memory_seat = c.meet.new.from; cell_seat = q } in
+    let entries : c.take_in.new.ledger.entries ≡ s.entries ++ entry_for t ∷ [] = ap (λ (z : LedgerState). z.entries) c.take_in.ensures.ledger in
+    let has = has_taken s k e held goes new to t refl entries c.take_in.ensures.held known in
     let right = subst (λ (z : TableId). HasRight z (ts ++ t ∷ []) t c.in-Ok.right) (sym mine) (right_given s k e held goes t refl c.args.cells.now q c.from_bytes-request.result c.from_bytes-request.ensures.fields c.in-Ok.right c.in-Ok.ensures.right) in
-    let told : takings c.take.new.self.entries ≡ ts ++ t ∷ [] = ap takings entries ∙ filter_map_add taking_of s.entries (entry_for t) t refl in
+    let told : takings c.take_in.new.ledger.entries ≡ ts ++ t ∷ [] = ap takings entries ∙ filter_map_add taking_of s.entries (entry_for t) t refl in
     let pages = pages_told from to t c.judge_next-judged.result.pages (c.meet.ensures.fixed_part ∙ sym c.meet.ensures.to.0.3) c.meet.ensures.told was.seen c.judge_next-judged.ensures.pages in
     let out : IsRightOut s new t c.in-Ok.right = (
       λ f. (refl, subst (λ (l : List Taking). HasRight (seat_cells s.cell_seat) l t c.in-Ok.right) (sym told) right),
