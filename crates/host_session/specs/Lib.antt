@@ -1,0 +1,13 @@
+pub mod Acts
+pub mod Calls
+pub mod Client
+pub mod ClientFields
+pub mod Closing
+pub mod Counting
+pub mod Endings
+pub mod Kept
+pub mod Opened
+pub mod Plan
+pub mod Told
+pub mod Visits
+pub mod Whole
