@@ -121,6 +121,7 @@ makeable words seed sessions requests is = subst (λ o. IfSome o HasNumbers) is 
 -- the task of words with a command
 pub asks : (words : List Word) (command : Command) (t : Task) → command_of words ≡ Some (meaning_of command) → Names (meaning_of command) t → Asks (command_of words) (Ok t)
 asks words command (task.DryRun image size) is names = is ∙ ap (λ m. Some m) names
+asks words command (task.List image size) is names = is ∙ ap (λ m. Some m) names
 asks words command (task.Make seed sessions requests) is names =
     let said = is ∙ ap (λ m. Some m) names in
     (said, makeable words seed sessions requests said)

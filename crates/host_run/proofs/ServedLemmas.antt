@@ -78,6 +78,9 @@ starts_on image part dry (Ok start) is few same not_built = record { is = same �
 starts_on image part dry (Err refusal.NotBuilt) is few same not_built = λ playable.
     not_built refl playable.range (subst (λ (i : List (List ℕ)). IsServedBy i Primary part playable.range) (sym is) playable.served)
 starts_on image part dry (Err refusal.Words) is few same not_built = tt
+starts_on image part dry (Err refusal.NoTable) is few same not_built = tt
+starts_on image part dry (Err refusal.TooManyBlocks) is few same not_built = tt
+starts_on image part dry (Err refusal.TableTooLarge) is few same not_built = tt
 starts_on image part dry (Err refusal.Disk) is few same not_built = tt
 starts_on image part dry (Err refusal.Script) is few same not_built = tt
 starts_on image part dry (Err refusal.Memory) is few same not_built = tt

@@ -1,6 +1,7 @@
 pub mod Buffer
 pub mod Built
 pub mod Dry
+pub mod Listed
 pub mod Made
 pub mod Outcomes
 pub mod Plans

@@ -4,6 +4,7 @@ use Rattle.host_io.specs.declared.disk.DiskError.{DiskError}
 use Rattle.host_io.specs.declared.disk.DiskError.TheVariants as error
 use Rattle.host_run.specs.declared.refusal.Refusal.{Refusal}
 use Rattle.host_run.specs.declared.refusal.Refusal.TheVariants as refusal
+use Rattle.host_run.specs.declared.status.Limit.TheVariants as limit
 use Rattle.host_run.specs.declared.status.RunStatus.{RunStatus}
 use Rattle.host_run.specs.declared.status.RunStatus.TheVariants as status
 
@@ -11,6 +12,9 @@ use Rattle.host_run.specs.declared.status.RunStatus.TheVariants as status
 abbrev pub refused_status : Refusal → RunStatus
 refused_status refusal.Words = status.BadWords
 refused_status refusal.NotBuilt = status.NotBuilt
+refused_status refusal.NoTable = status.NoTable
+refused_status refusal.TooManyBlocks = status.TooLarge limit.Blocks
+refused_status refusal.TableTooLarge = status.TooLarge limit.Table
 refused_status refusal.Disk = status.DiskFault
 refused_status refusal.Script = status.ScriptFault
 refused_status refusal.Memory = status.OutOfMemory
@@ -19,6 +23,9 @@ refused_status refusal.Memory = status.OutOfMemory
 abbrev pub refusal_line : RunStatus → List ℕ
 refusal_line status.BadWords = codes "refused 2 words\n"
 refusal_line status.NotBuilt = codes "refused 11 not built\n"
+refusal_line status.NoTable = codes "refused 3 no table\n"
+refusal_line (status.TooLarge limit.Blocks) = codes "refused 9 blocks\n"
+refusal_line (status.TooLarge limit.Table) = codes "refused 9 table\n"
 refusal_line status.DiskFault = codes "refused 5 disk\n"
 refusal_line status.ScriptFault = codes "refused 6 script unread\n"
 refusal_line status.OutOfMemory = codes "refused 8 memory\n"

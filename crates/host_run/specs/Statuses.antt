@@ -3,7 +3,7 @@ use Rattle.std.specs.Prelude.{◌≡◌, ℕ, Bool, true, false, List, [], Optio
 use Rattle.host_run.specs.Made.{IsMakeStatus}
 use Rattle.host_run.specs.Refusals.{refused_status}
 use Rattle.host_run.specs.Script.{IsReadOut}
-use Rattle.host_run.specs.Words.{Making}
+use Rattle.host_run.specs.Words.{Making, TableOf}
 use Rattle.host_run.specs.declared.refusal.Refusal.{Refusal}
 use Rattle.host_report.specs.declared.closing.Closing.{Closing}
 use Rattle.host_report.specs.declared.closing.Closing.TheVariants.{Good, Fault, Cut, NoMemory}
@@ -47,14 +47,15 @@ pub record HasMade (status : RunStatus) (report : Option Report) : Type 0 where
   pub status_is : IsMakeStatus status
   pub none : report ≡ None
 
--- a call that makes a script has no report; each other one has one as a run
-abbrev pub HasReport : Option Making → RunStatus → Option Report → Type 0
-HasReport (Some making) status report = HasMade status report
-HasReport None status report = HasRunReport status report
+-- a call that lists a table or makes a script has no report; each other one has one as a run
+abbrev pub HasReport : Option TableOf → Option Making → RunStatus → Option Report → Type 0
+HasReport (Some listing) making status report = report ≡ None
+HasReport None (Some making) status report = HasMade status report
+HasReport None None status report = HasRunReport status report
 
--- What a status says of the reading of the script: but for 6, 8 without a report, and 11 for the words, it was read to its
+-- What a status of a run says of the reading of the script: but for 6, 8 without a report, and 11 for the words, it was read to its
 -- end, or past its limit.
 pub record ReadsOut (is_dry_run : Type 0) (status : RunStatus) (report : Option Report) (left new_left : List ℕ) : Type 0 where
   pub played : IsSome report → new_left ≡ []
-  pub disk : status ≡ DiskFault → new_left ≡ []
+  pub disk : status ≡ DiskFault → is_dry_run → new_left ≡ []
   pub not_built : status ≡ NotBuilt → is_dry_run → IsReadOut left new_left

@@ -3,6 +3,7 @@
 
 mod dry;
 mod dry_run;
+mod list;
 mod make;
 mod outcome;
 mod partition;

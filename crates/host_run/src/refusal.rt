@@ -3,7 +3,7 @@ ghost use Rattle.std.specs.Prelude.{◌≡◌};
 ghost use Rattle.host_run.specs.Refusals.{of_disk_error, refusal_line, refused_status};
 ghost use Rattle.host_run.specs.declared.refusal.Refusal.TheVariants.{Memory as OutOfMemory, Script as Unread};
 
-use crate::status::RunStatus;
+use crate::status::{Limit, RunStatus};
 use host_block::Oom;
 use host_io::{DiskError, SourceFailed};
 
@@ -12,6 +12,9 @@ pub enum Refusal {
     /// The words are outside the grammar.
     Words,
     NotBuilt,
+    NoTable,
+    TooManyBlocks,
+    TableTooLarge,
     /// The disk failed, and its count of faults rose.
     Disk,
     /// The source of the script failed, and its count of faults rose.
@@ -28,6 +31,9 @@ impl Refusal {
         match self {
             Refusal::Words => b"refused 2 words\n",
             Refusal::NotBuilt => b"refused 11 not built\n",
+            Refusal::NoTable => b"refused 3 no table\n",
+            Refusal::TooManyBlocks => b"refused 9 blocks\n",
+            Refusal::TableTooLarge => b"refused 9 table\n",
             Refusal::Disk => b"refused 5 disk\n",
             Refusal::Script => b"refused 6 script unread\n",
             Refusal::Memory => b"refused 8 memory\n",
@@ -41,6 +47,11 @@ impl Refusal {
         match self {
             Refusal::Words => RunStatus::BadWords,
             Refusal::NotBuilt => RunStatus::NotBuilt,
+            Refusal::NoTable => RunStatus::NoTable,
+            Refusal::TooManyBlocks => RunStatus::TooLarge {
+                what: Limit::Blocks,
+            },
+            Refusal::TableTooLarge => RunStatus::TooLarge { what: Limit::Table },
             Refusal::Disk => RunStatus::DiskFault,
             Refusal::Script => RunStatus::ScriptFault,
             Refusal::Memory => RunStatus::OutOfMemory,

@@ -15,6 +15,11 @@ pub enum Task<'a> {
         image: &'a str,
         size: BlockSize,
     },
+    /// The text of an image's partition table.
+    List {
+        image: &'a str,
+        size: BlockSize,
+    },
     /// The text of a generated script.
     Make {
         seed: u32,
@@ -47,6 +52,10 @@ fn task_of<'a>(command: &Command<'a>) -> Task<'a>
             cut: false,
             steps: false,
         } => Task::DryRun {
+            image: *image,
+            size: *block,
+        },
+        Command::List { image, block } => Task::List {
             image: *image,
             size: *block,
         },

@@ -5,16 +5,18 @@ ghost use Rattle.host_run.specs.Outcomes.{HasSize, IsLawfulOn, OpensAs, PlaysTex
 ghost use Rattle.host_io.specs.Causes.{Rose};
 ghost use Rattle.host_io.specs.Disks.{OnlyReads};
 ghost use Rattle.host_io.specs.MemDisk.{counts_of};
+ghost use Rattle.host_run.specs.Listed.{ListLeaves};
 ghost use Rattle.host_run.specs.Made.{PutsScript};
 ghost use Rattle.host_run.specs.Refusals.{refusal_line};
 ghost use Rattle.host_run.specs.Statuses.{HasReport, ReadsOut};
 ghost use Rattle.host_report.specs.Text.{report_text};
-ghost use Rattle.host_run.specs.Words.{IsUnbuilt, dry_run_in, making_in};
+ghost use Rattle.host_run.specs.Words.{IsUnbuilt, dry_run_in, listing_in, making_in};
 ghost use Rattle.host_words.specs.Commands.{command_of};
 ghost use Rattle.host_run.specs.Writes.{PutsText};
 ghost use Rattle.host_run.specs.declared.status.RunStatus.TheVariants.{BadWords, DiskFault, Done, NotBuilt, OutOfMemory, ScriptFault, SinkFault};
 
 use crate::dry_run::dry_run;
+use crate::list::list;
 use crate::make::make;
 use crate::outcome::Outcome;
 use crate::refusal::Refusal;
@@ -25,8 +27,9 @@ use host_words::WordsError;
 use std::alloc::Global;
 
 /// Runs the words after the program's name. `run IMAGE --dry` plays the script on a copy of the image in memory and puts
-/// the text of the run; `make` puts the text of a generated script. A call that is refused before its session begins puts
-/// one line, and keeps its status whether or not `out` takes it.
+/// the text of the run; `list` attaches the image without writes and puts the text of its table; `make` puts the text of a
+/// generated script. A call that is refused before its session begins puts one line, and keeps its status whether or not
+/// `out` takes it.
 pub fn run<'a, S: Source, D: Disk + Send, K: Sink, G: Gate + Sync>(
     alloc: Global,
     words: &'a [&'a str],
@@ -43,13 +46,13 @@ pub fn run<'a, S: Source, D: Disk + Send, K: Sink, G: Gate + Sync>(
     // The script was read to its end, or past its limit.
     ensures read_out { IsTrue (S.tells script.old) → ReadsOut (IsSome (dry_run_in (command_of (map (λ w. w.now) words.entry.now)))) result.status result.report (S.left script.old) (S.left script.new) }
 
-    // Words outside the grammar, and words that ask for what isn't built, are told exactly, but for want of memory; where
-    // no run is asked for, source and disk aren't touched.
+    // Words outside the grammar, and words that ask for what isn't built, are told exactly, but for want of memory. Where
+    // no run is asked for the source isn't touched, nor is the disk where no table is to be listed.
     ensures bad_words { result.status ≡ BadWords → command_of (map (λ w. w.now) words.entry.now) ≡ None }
     ensures outside { command_of (map (λ w. w.now) words.entry.now) ≡ None → (result.status ≡ BadWords) ⊎ (result.status ≡ OutOfMemory) }
     ensures unbuilt { IsUnbuilt (command_of (map (λ w. w.now) words.entry.now)) → (result.status ≡ NotBuilt) ⊎ (result.status ≡ OutOfMemory) }
     ensures source_untouched { dry_run_in (command_of (map (λ w. w.now) words.entry.now)) ≡ None → script.new ≡ script.old }
-    ensures disk_untouched { dry_run_in (command_of (map (λ w. w.now) words.entry.now)) ≡ None → result.disk ≡ disk }
+    ensures disk_untouched { dry_run_in (command_of (map (λ w. w.now) words.entry.now)) ≡ None → listing_in (command_of (map (λ w. w.now) words.entry.now)) ≡ None → result.disk ≡ disk }
 
     // What isn't built yet is told exactly, where script and disk tell.
     ensures not_built { IsTrue (S.tells script.old) → IsTrue (D.shape disk).tells → result.status ≡ NotBuilt → ¬ IsBuilt (command_of (map (λ w. w.now) words.entry.now)) (S.left script.old) (λ name size. D.image_named disk name size) }
@@ -59,7 +62,7 @@ pub fn run<'a, S: Source, D: Disk + Send, K: Sink, G: Gate + Sync>(
     ensures only_reads { OnlyReads (D.counts disk) (D.counts result.disk) (D.never_fails disk) (D.never_fails result.disk) }
 
     // Which statuses have a report, and what is put with it and without.
-    ensures report { HasReport (making_in (command_of (map (λ w. w.now) words.entry.now))) result.status result.report }
+    ensures report { HasReport (listing_in (command_of (map (λ w. w.now) words.entry.now))) (making_in (command_of (map (λ w. w.now) words.entry.now))) result.status result.report }
     ensures dry { IsSome result.dry ↔ IsSome result.report }
 
     // What was played on, in blocks of the size that the words say: the image that the words name on the disk handed in, where that tells.
@@ -75,6 +78,7 @@ pub fn run<'a, S: Source, D: Disk + Send, K: Sink, G: Gate + Sync>(
     // What was put.
     ensures text { IfSome result.report (λ report. PutsText (K.tells out.old) (K.appended out.old) (K.appended out.new) (K.faults out.old) (K.faults out.new) (report_text report false)) }
     ensures line { IfNone result.report (result.status ≢ Done → result.status ≢ SinkFault → PutsText (K.tells out.old) (K.appended out.old) (K.appended out.new) (K.faults out.old) (K.faults out.new) (refusal_line result.status)) }
+    ensures list { IfSome (listing_in (command_of (map (λ w. w.now) words.entry.now))) (λ listing. ListLeaves (record { disk_tells = (D.shape disk).tells; image = D.image_named disk listing.name listing.size; size = listing.size; tells = K.tells out.old; old = K.appended out.old; new = K.appended out.new; faults = K.faults out.old; new_faults = K.faults out.new }) result.status) }
     ensures make { IfSome (making_in (command_of (map (λ w. w.now) words.entry.now))) (λ making. PutsScript (K.tells out.old) (K.appended out.old) (K.appended out.new) (K.faults out.old) (K.faults out.new) making result.status) }
 {
     let task = match read_task(alloc, words) {
@@ -84,6 +88,7 @@ pub fn run<'a, S: Source, D: Disk + Send, K: Sink, G: Gate + Sync>(
     };
     match &task {
         Task::DryRun { image, size } => dry_run(alloc, image, *size, script, disk, out),
+        Task::List { image, size } => list(alloc, image, *size, disk, out),
         Task::Make {
             seed,
             sessions,

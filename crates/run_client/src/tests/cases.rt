@@ -61,7 +61,7 @@ const BAD_WORDS: Case = Case {
     ..STORED
 };
 
-pub const CASES: [Case; 29] = [
+pub const CASES: [Case; 32] = [
     STORED,
     Case {
         script: "session 1\nattach 1\nread 1 1 0 29 1\nwait\nshow 1 0 1\n",
@@ -154,6 +154,24 @@ pub const CASES: [Case; 29] = [
     },
     Case {
         words: &["run", "--dry", "--block=512", "--", "base.img"],
+        ..STORED
+    },
+    Case {
+        words: &["list", "--", "base.img"],
+        lines: "image 128 of 512\ntable primary\ndisk 00112233-4455-6677-8899-aabbccddeeff\npart 1 first 34 last 63 ",
+        ..STORED
+    },
+    Case {
+        words: &["list", "--block=1024", "base.img"],
+        status: RunStatus::NoTable,
+        lines: "refused 3 no table\n",
+        ..STORED
+    },
+    Case {
+        words: &["list", "base.img"],
+        outside: Outside::Attach,
+        status: RunStatus::DiskFault,
+        lines: "refused 5 disk\n",
         ..STORED
     },
     Case {
