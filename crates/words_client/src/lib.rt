@@ -1,0 +1,5 @@
+//! The table of words of a call with the statuses that they end with.
+#![tactic(auto)]
+
+#[cfg(test)]
+mod tests;

@@ -1,0 +1,46 @@
+mod call;
+mod commands;
+mod hyphens;
+mod numbers;
+mod options;
+mod ranges;
+
+use call::{Row, status_of};
+use std::alloc::Global;
+
+// The first row that ends with another status, or with none.
+fn first_wrong<'a>(alloc: Global, rows: &'a [Row]) -> Option<(&'a Row, Option<u8>)> {
+    for row in rows {
+        let (words, expected) = *row;
+        let status = status_of(alloc, words);
+        if status != Some(expected) {
+            return Some((row, status));
+        }
+    }
+    None
+}
+
+#[test]
+fn commands_and_their_words(rt: HostRuntime) {
+    assert_eq!(rt; first_wrong(rt.alloc(), commands::ROWS.as_slice()), None);
+}
+
+#[test]
+fn options_in_their_places(rt: HostRuntime) {
+    assert_eq!(rt; first_wrong(rt.alloc(), options::ROWS.as_slice()), None);
+}
+
+#[test]
+fn words_that_begin_with_a_hyphen(rt: HostRuntime) {
+    assert_eq!(rt; first_wrong(rt.alloc(), hyphens::ROWS.as_slice()), None);
+}
+
+#[test]
+fn how_numbers_are_written(rt: HostRuntime) {
+    assert_eq!(rt; first_wrong(rt.alloc(), numbers::ROWS.as_slice()), None);
+}
+
+#[test]
+fn ends_of_ranges(rt: HostRuntime) {
+    assert_eq!(rt; first_wrong(rt.alloc(), ranges::ROWS.as_slice()), None);
+}
