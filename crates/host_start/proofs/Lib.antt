@@ -1,0 +1,4 @@
+pub mod CopyLemmas
+pub mod ImageLemmas
+pub mod PlaceLemmas
+pub mod ReadLemmas

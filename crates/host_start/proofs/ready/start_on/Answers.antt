@@ -1,0 +1,37 @@
+use Rattle.std.proofs.Common.{◌≡◌, ◌∙◌, List, ℕ, true, Err, ap, refl, sym, subst, length, arith}
+use Rattle.host_block.specs.Disk.{DiskState}
+use Rattle.host_gpt.specs.Image.{current_image}
+use Rattle.host_io.specs.Flat.{image_of}
+use Rattle.host_io.specs.MemDisk.{opening_of}
+use Rattle.host_start.specs.Copies.{image_in}
+use Rattle.host_start.specs.Images.{IsPlaced, IsSmallEnough, SaysOfImage, SaysOfTable, parts_of}
+use Rattle.host_start.specs.Refusals.{IsAfterScript}
+use Rattle.host_start.specs.declared.error.StartError.{StartError}
+use Rattle.host_start.proofs.CopyLemmas.{length-image_in}
+use Rattle.host_start.proofs.ImageLemmas.{after_table, no_rise, same_kept, says_of_image}
+use Rattle.script_model.specs.Plans.{plans_of}
+use Rattle.host_start.proofs.ready.start_on.Goals as goal
+
+pub returns-in-Ok-clause-placed : goal.returns-in-Ok-clause-placed
+returns-in-Ok-clause-placed c =
+    let copy = c.args.copy in
+    subst (λ (i : List (List ℕ)). IsPlaced true i c.in-Ok.start) (ap current_image copy.fresh ∙ ap (λ (o : List ℕ). image_of copy.size o) (sym c.on.ensures.opening)) c.in-Ok.ensures.placed
+
+pub not_ready-requires-clause-no_fault : goal.not_ready-requires-clause-no_fault
+not_ready-requires-clause-no_fault c = λ is.
+    no_rise _ _ c.args.copy.has_not_failed (c.on.ensures.only_reads.no_fault c.args.copy.never_fails) (c.in-Err.ensures.fault (ap (λ (e : StartError). Err e) is))
+
+pub returns-in-Err-clause-cause : goal.returns-in-Err-clause-cause
+returns-in-Err-clause-cause c = subst IsAfterScript (sym c.not_ready.ensures.error) (after_table c.in-Err.error c.in-Err.ensures.cause)
+
+pub returns-in-Err-clause-refused : goal.returns-in-Err-clause-refused
+returns-in-Err-clause-refused c =
+    let copy = c.args.copy in
+    let parts = parts_of (plans_of c.args.script) in
+    let small : IsSmallEnough (image_in copy) = omega (arith, length-image_in copy, c.requires.few_blocks) in
+    subst (SaysOfImage (image_in copy) parts) (sym c.not_ready.ensures.error)
+    (says_of_image (image_in copy) parts c.in-Err.error small c.in-Err.ensures.cause
+    (subst (λ (s : DiskState). SaysOfTable (current_image s) parts c.in-Err.error) copy.fresh (c.in-Err.ensures.refused refl)))
+
+pub returns-in-Err-clause-found : goal.returns-in-Err-clause-found
+returns-in-Err-clause-found c = same_kept c.not_ready.result.copy _ (image_in c.args.copy) c.not_ready.ensures.copy (ap (λ (o : List ℕ). image_of c.args.copy.size o) c.on.ensures.opening)

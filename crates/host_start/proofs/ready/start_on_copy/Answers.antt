@@ -1,0 +1,38 @@
+use Rattle.std.proofs.Common.{[], List, ℕ, ◌≡◌, subst}
+use Rattle.std.specs.Prelude.{IfErr, IfOk, IfSome}
+use Rattle.host_io.specs.Causes.{Rose}
+use Rattle.host_start.specs.Copies.{image_in}
+use Rattle.host_start.specs.Images.{SaysOfImage, parts_of}
+use Rattle.host_start.specs.declared.copy.ImageCopy.{ImageCopy}
+use Rattle.host_start.specs.declared.ready.NotReady.{NotReady}
+use Rattle.host_start.specs.declared.ready.ReadyCopy.{ReadyCopy}
+use Rattle.host_start.proofs.ImageLemmas.{after_image, found_with, image_not_content, never_faults, says_early}
+use Rattle.script_model.specs.Plans.{plans_of}
+use Rattle.host_start.proofs.ready.start_on_copy.Goals as goal
+
+pub returns-in-Err-clause-cause : goal.returns-in-Err-clause-cause
+returns-in-Err-clause-cause g c = after_image c.in-Err.error c.in-Err.ensures.cause
+
+pub returns-in-Err-clause-refused : goal.returns-in-Err-clause-refused
+returns-in-Err-clause-refused g c = λ told. says_early _ [] _ c.in-Err.error c.in-Err.ensures.cause (c.in-Err.ensures.copied told)
+
+pub returns-in-Err-clause-handed : goal.returns-in-Err-clause-handed
+returns-in-Err-clause-handed g c = (λ some. absurd (cc some), λ content. absurd (image_not_content c.in-Err.error c.in-Err.ensures.cause content))
+
+pub returns-in-Ok-clause-fault : goal.returns-in-Ok-clause-fault
+returns-in-Ok-clause-fault g c = never_faults _ c.start_on.result c.start_on.ensures.no_fault
+
+pub returns-in-Ok-clause-copied : goal.returns-in-Ok-clause-copied
+returns-in-Ok-clause-copied g c = λ told.
+    subst (λ (i : List (List ℕ)). IfOk c.start_on.result (λ (r : ReadyCopy). image_in r.copy ≡ i)) (c.in-Ok.ensures.copied told).0 c.start_on.ensures.same
+
+pub returns-in-Ok-clause-refused : goal.returns-in-Ok-clause-refused
+returns-in-Ok-clause-refused g c = λ told.
+    subst (λ (i : List (List ℕ)). IfErr c.start_on.result (λ (no : NotReady). SaysOfImage i (parts_of (plans_of c.args.script)) no.error)) (c.in-Ok.ensures.copied told).0 c.start_on.ensures.refused
+
+pub returns-in-Ok-clause-found_on : goal.returns-in-Ok-clause-found_on
+returns-in-Ok-clause-found_on g c = found_with (image_in c.in-Ok.copy) (parts_of (plans_of c.args.script)) c.start_on.result c.start_on.ensures.refused c.start_on.ensures.found
+
+pub returns-in-Ok-clause-found : goal.returns-in-Ok-clause-found
+returns-in-Ok-clause-found g c = λ told.
+    subst (λ (i : List (List ℕ)). IfErr c.start_on.result (λ (no : NotReady). IfSome no.copy (λ (k : ImageCopy). image_in k ≡ i))) (c.in-Ok.ensures.copied told).0 c.start_on.ensures.found
