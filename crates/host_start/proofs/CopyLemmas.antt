@@ -1,5 +1,5 @@
 -- A copy of an image in memory: its blocks, and where they come from.
-use Rattle.std.proofs.Common.{◌≡◌, ℕ, ◌*◌, ◌/◌, ◌+◌, ◌<◌, List, [], length, sym, ◌∙◌, ap, subst, arith}
+use Rattle.std.proofs.Common.{◌≡◌, ℕ, ◌*◌, ◌/◌, ◌+◌, ◌<◌, List, length, sym, ◌∙◌, ap, subst, arith}
 use Rattle.std.proofs.lemmas.Nat.{div-mul-add}
 use Rattle.host_block.specs.Disk.{DiskState, IsImage, IsOfSize, fresh}
 use Rattle.host_block.specs.Size.{IsBlockSize}

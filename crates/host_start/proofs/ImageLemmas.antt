@@ -1,5 +1,5 @@
 -- What the stages after the script say together.
-use Rattle.std.proofs.Common.{◌≡◌, ℕ, ◌≤◌, Bool, List, length, refl, sym, ◌∙◌, ap, subst, arith, Option, Some, None}
+use Rattle.std.proofs.Common.{◌≡◌, ℕ, Bool, List, refl, sym, ◌∙◌, ap, subst, arith, Option, Some, None}
 use Rattle.std.specs.Prelude.{IsTrue, Result, Ok, Err, IfOk, IfErr, IfSome, OnOk}
 use Rattle.host_block.specs.Disk.{DiskState, fresh}
 use Rattle.host_gpt.specs.Image.{current_image}
@@ -165,3 +165,8 @@ never_faults P (Err refused) none = λ is. absurd (none is)
 pub same_kept : (copy : Option ImageCopy) (kept : ImageCopy) (image : List (List ℕ)) → IfSome copy (λ (c : ImageCopy). c ≡ kept) → image_in kept ≡ image → IfSome copy (λ (c : ImageCopy). image_in c ≡ image)
 same_kept None kept image same is = tt
 same_kept (Some c) kept image same is = ap image_in same ∙ is
+
+-- in blocks of the same size
+pub same_size : (copy : Option ImageCopy) (kept : ImageCopy) (size : ℕ) → IfSome copy (λ (c : ImageCopy). c ≡ kept) → kept.size ≡ size → IfSome copy (λ (c : ImageCopy). c.size ≡ size)
+same_size None kept size same is = tt
+same_size (Some c) kept size same is = ap (λ (k : ImageCopy). k.size) same ∙ is

@@ -1,5 +1,5 @@
 -- Partitions of a layout, and the first of a list of sessions that isn't served.
-use Rattle.std.proofs.Common.{◌≡◌, ℕ, false, cond, ◌+◌, ◌<◌, ◌≤◌, List, [], ◌∷◌, ◌++◌, length, map, take, drop, get_or, refl, sym, ◌∙◌, ap, subst, arith, add-one, take-append-drop, take-suc, drop-cons, suc, length-take-le}
+use Rattle.std.proofs.Common.{◌≡◌, ℕ, false, cond, ◌+◌, ◌<◌, ◌≤◌, List, [], ◌∷◌, ◌++◌, length, map, take, drop, get_or, refl, sym, ◌∙◌, ap, subst, arith, take-append-drop, take-suc, drop-cons, suc, length-take-le}
 use Rattle.std.specs.Prelude.{◌↔◌, All, IsErrOf, Result, Ok, Err, is_ok, is_err}
 use Rattle.std.proofs.lemmas.List.{get_or-map, length-map, map-append}
 use Rattle.std.proofs.lemmas.List.Elements.{All-map, All-push, All-same, All-weaker}
@@ -17,7 +17,7 @@ use Rattle.host_start.specs.Images.{ArePlaces, FindsPlaces, IsFirstUnserved, IsL
 use Rattle.host_start.specs.declared.error.StartError.{StartError}
 use Rattle.host_start.specs.declared.error.StartError.TheVariants as error
 use Rattle.host_start.specs.declared.places.Place.{Place}
-use Rattle.script_model.specs.Plans.{SessionPlan, plan_of}
+use Rattle.script_model.specs.Plans.{plan_of}
 use Rattle.script_model.specs.declared.script.SessionScript.{SessionScript}
 
 -- a range ends within the image

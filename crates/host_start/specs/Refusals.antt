@@ -1,5 +1,4 @@
 -- Which refusals come from which stage.
-use Rattle.std.specs.Prelude.{ℕ}
 use Rattle.host_gpt.specs.declared.table_error.TableError.{TableError}
 use Rattle.host_gpt.specs.declared.table_error.TableError.TheVariants as table
 use Rattle.host_io.specs.declared.disk.DiskError.{DiskError}

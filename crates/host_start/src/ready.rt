@@ -86,6 +86,7 @@ pub fn start_on_copy<D: Disk>(
     ensures refused { IsTrue (D.shape disk.old).tells → IfErr result (λ no. SaysOfImage (D.image_named disk.old image.now size) (parts_of (plans_of script)) no.error) }
     ensures found_on { IfErr result (λ no. IfSome no.copy (λ copy. SaysOfImage (image_in copy) (parts_of (plans_of script)) no.error)) }
     ensures found { IsTrue (D.shape disk.old).tells → IfErr result (λ no. IfSome no.copy (λ copy. image_in copy ≡ D.image_named disk.old image.now size)) }
+    ensures found_size { IfErr result (λ no. IfSome no.copy (λ copy. copy.size ≡ size)) }
     ensures handed { IfErr result (λ no. IsSome no.copy ↔ IsOfContent no.error) }
 {
     match ImageCopy::of_image(alloc, disk, image, size) {
@@ -108,6 +109,7 @@ fn start_on(alloc: Global, script: Script, copy: ImageCopy) -> Result<ReadyCopy,
     ensures same { IfOk result (λ ready. image_in ready.copy ≡ image_in copy) }
     ensures refused { IfErr result (λ no. SaysOfImage (image_in copy) (parts_of (plans_of script)) no.error) }
     ensures found { IfErr result (λ no. IfSome no.copy (λ kept. image_in kept ≡ image_in copy)) }
+    ensures found_size { IfErr result (λ no. IfSome no.copy (λ kept. kept.size ≡ copy.size)) }
     ensures handed { IfErr result (λ no. IsSome no.copy ↔ IsOfContent no.error) }
 {
     let mut copy = copy;

@@ -44,13 +44,14 @@ fn disk(alloc: Global, is_damaged: bool) -> Option<MemDisk> {
 
 // Why a script isn't begun on a copy of the base image, and whether the copy is handed out with the refusal.
 fn refusal_of(alloc: Global, text: &str) -> Option<(StartError, bool)> {
+    let size = size()?;
     let bytes = text.as_bytes().to_vec(alloc).ok()?;
     let mut source = MemSource::new(bytes, Vec::new(alloc));
-    let script = match read_script(alloc, &mut source, size()?) {
+    let script = match read_script(alloc, &mut source, size) {
         Ok(script) => script,
         Err(error) => return Some((error, false)),
     };
-    let no = start_on_copy(alloc, script, &mut disk(alloc, false)?, "any", size()?).err()?;
+    let no = start_on_copy(alloc, script, &mut disk(alloc, false)?, "any", size).err()?;
     Some((no.error, no.copy.is_some()))
 }
 

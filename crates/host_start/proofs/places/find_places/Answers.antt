@@ -1,4 +1,4 @@
-use Rattle.std.proofs.Common.{◌≡◌, ◌∙◌, ◌<◌, List, ◌∷◌, ◌++◌, [], length, map, subst, sym, arith, ◌+◌, ℕ, rules}
+use Rattle.std.proofs.Common.{◌≡◌, ◌∙◌, List, ◌∷◌, ◌++◌, [], length, map, subst, sym, arith, ◌+◌, ℕ, rules}
 use Rattle.std.proofs.lemmas.List.{length-map}
 use Rattle.host_start.proofs.PlaceLemmas.{AreFirst, first_unserved, more_first, part_at, pushed}
 use Rattle.host_start.specs.Images.{IsFirstUnserved}

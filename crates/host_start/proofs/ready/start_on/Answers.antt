@@ -1,14 +1,13 @@
-use Rattle.std.proofs.Common.{◌≡◌, ◌∙◌, List, ℕ, true, Err, ap, refl, sym, subst, length, arith}
+use Rattle.std.proofs.Common.{◌∙◌, List, ℕ, true, Err, ap, refl, sym, subst, length, arith}
 use Rattle.host_block.specs.Disk.{DiskState}
 use Rattle.host_gpt.specs.Image.{current_image}
 use Rattle.host_io.specs.Flat.{image_of}
-use Rattle.host_io.specs.MemDisk.{opening_of}
 use Rattle.host_start.specs.Copies.{image_in}
 use Rattle.host_start.specs.Images.{IsPlaced, IsSmallEnough, SaysOfImage, SaysOfTable, parts_of}
 use Rattle.host_start.specs.Refusals.{IsAfterScript}
 use Rattle.host_start.specs.declared.error.StartError.{StartError}
 use Rattle.host_start.proofs.CopyLemmas.{length-image_in}
-use Rattle.host_start.proofs.ImageLemmas.{after_table, no_rise, same_kept, says_of_image}
+use Rattle.host_start.proofs.ImageLemmas.{after_table, no_rise, same_kept, same_size, says_of_image}
 use Rattle.script_model.specs.Plans.{plans_of}
 use Rattle.host_start.proofs.ready.start_on.Goals as goal
 
@@ -35,3 +34,6 @@ returns-in-Err-clause-refused c =
 
 pub returns-in-Err-clause-found : goal.returns-in-Err-clause-found
 returns-in-Err-clause-found c = same_kept c.not_ready.result.copy _ (image_in c.args.copy) c.not_ready.ensures.copy (ap (λ (o : List ℕ). image_of c.args.copy.size o) c.on.ensures.opening)
+
+pub returns-in-Err-clause-found_size : goal.returns-in-Err-clause-found_size
+returns-in-Err-clause-found_size c = same_size c.not_ready.result.copy _ c.args.copy.size c.not_ready.ensures.copy refl

@@ -1,6 +1,5 @@
 use Rattle.std.proofs.Common.{[], List, ℕ, ◌≡◌, subst}
 use Rattle.std.specs.Prelude.{IfErr, IfOk, IfSome}
-use Rattle.host_io.specs.Causes.{Rose}
 use Rattle.host_start.specs.Copies.{image_in}
 use Rattle.host_start.specs.Images.{SaysOfImage, parts_of}
 use Rattle.host_start.specs.declared.copy.ImageCopy.{ImageCopy}
@@ -36,3 +35,7 @@ returns-in-Ok-clause-found_on g c = found_with (image_in c.in-Ok.copy) (parts_of
 pub returns-in-Ok-clause-found : goal.returns-in-Ok-clause-found
 returns-in-Ok-clause-found g c = λ told.
     subst (λ (i : List (List ℕ)). IfErr c.start_on.result (λ (no : NotReady). IfSome no.copy (λ (k : ImageCopy). image_in k ≡ i))) (c.in-Ok.ensures.copied told).0 c.start_on.ensures.found
+
+pub returns-in-Ok-clause-found_size : goal.returns-in-Ok-clause-found_size
+returns-in-Ok-clause-found_size g c =
+    subst (λ (n : ℕ). IfErr c.start_on.result (λ (no : NotReady). IfSome no.copy (λ (k : ImageCopy). k.size ≡ n))) c.in-Ok.ensures.size c.start_on.ensures.found_size

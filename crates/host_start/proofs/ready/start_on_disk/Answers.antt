@@ -1,4 +1,4 @@
-use Rattle.std.proofs.Common.{◌∙◌, [], sym}
+use Rattle.std.proofs.Common.{◌∙◌, []}
 use Rattle.host_start.specs.Images.{parts_of}
 use Rattle.host_start.proofs.ImageLemmas.{after_image, after_tables, attached_by, fresh_by, placed_on, refused_on, says_early}
 use Rattle.script_model.specs.Plans.{plans_of}

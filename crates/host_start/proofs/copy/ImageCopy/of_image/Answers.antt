@@ -1,6 +1,5 @@
 use Rattle.std.proofs.Common.{◌≡◌, ◌∙◌, ℕ, ◌<◌, List, length, arith, ap, sym, subst}
 use Rattle.host_block.specs.Disk.{IsOfSize}
-use Rattle.host_start.specs.Copies.{image_in}
 use Rattle.host_start.proofs.CopyLemmas.{copied_image, length-image_in, length-image_of, some_bytes}
 use Rattle.host_start.proofs.copy.ImageCopy.of_image.Goals as goal
 

@@ -1,4 +1,4 @@
-use Rattle.std.proofs.Common.{◌≡◌, ◌∙◌, List, length, refl, sym, ap, arith}
+use Rattle.std.proofs.Common.{◌∙◌, List, length, refl, sym, ap, arith}
 use Rattle.host_gpt.specs.Image.{current_image}
 use Rattle.host_gpt.proofs.BlockLemmas.{image_length}
 use Rattle.host_part.specs.Served.{layout_of}
