@@ -1,0 +1,4 @@
+pub mod Fronts
+pub mod Gathered
+pub mod Taking
+pub mod Buffers

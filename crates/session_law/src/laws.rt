@@ -1,0 +1,19 @@
+//! Laws over the definitions, each the contract of a function that does nothing.
+ghost use Rattle.session_law.specs.Buffers.{BuffersTold};
+ghost use Rattle.session_law.specs.Fronts.{FrontsRise};
+ghost use Rattle.session_law.specs.Taking.{TakenInOrder};
+
+/// What a client end knew as it sent a record: all that the slips received before told, and its own entries.
+pub fn fronts_rise()
+    ensures { FrontsRise }
+{}
+
+/// The records of a session were taken in the order sent, with the verdicts that its client's log gives them.
+pub fn taken_in_order()
+    ensures { TakenInOrder }
+{}
+
+/// The buffers' history has the client's entries as its log tells them, its pages, and each buffer's one release.
+pub fn buffers_told()
+    ensures { BuffersTold }
+{}

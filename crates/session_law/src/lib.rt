@@ -1,0 +1,6 @@
+//! What makes a session lawful, as laws over what is known of it once its ends were put together.
+#![tactic(auto)]
+
+mod laws;
+
+pub use laws::{buffers_told, fronts_rise, taken_in_order};
