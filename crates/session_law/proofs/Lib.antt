@@ -6,3 +6,14 @@ pub mod Released
 pub mod Gathered
 pub mod Taken
 pub mod Buffers
+pub mod Sums
+pub mod Handing
+pub mod Landings
+pub mod Finding
+pub mod Ends
+pub mod Returned
+pub mod Lone
+pub mod Right
+pub mod Once
+pub mod Received
+pub mod Due

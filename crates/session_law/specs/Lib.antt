@@ -2,3 +2,5 @@ pub mod Fronts
 pub mod Gathered
 pub mod Taking
 pub mod Buffers
+pub mod Handing
+pub mod Answering

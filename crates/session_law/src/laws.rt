@@ -1,4 +1,5 @@
 //! Laws over the definitions, each the contract of a function that does nothing.
+ghost use Rattle.session_law.specs.Answering.{DueAnswers};
 ghost use Rattle.session_law.specs.Buffers.{BuffersTold};
 ghost use Rattle.session_law.specs.Fronts.{FrontsRise};
 ghost use Rattle.session_law.specs.Taking.{TakenInOrder};
@@ -16,4 +17,9 @@ pub fn taken_in_order()
 /// The buffers' history has the client's entries as its log tells them, its pages, and each buffer's one release.
 pub fn buffers_told()
     ensures { BuffersTold }
+{}
+
+/// What a session's client received is what it was due, each answer once at most; after a drain each just once.
+pub fn due_answers()
+    ensures { DueAnswers }
 {}
