@@ -115,7 +115,7 @@ module _ (client : ClientState) (hands : List SessionHand) (h : List MemEntry) (
       let r = requests_are client hands h s g in
       ap (λ q. request_at q i) r.1 ∙ request_before (requests_of (ts_of client hands h s g)) r.0 i (omega (arith, lt, asked_count))
 
-  row_many : length s.rows ≡ length (ts_of client hands h s g)
+  pub row_many : length s.rows ≡ length (ts_of client hands h s g)
   row_many = ap length rows_same ∙ length-map (ts_of client hands h s g) (row_in ls_of)
 
   is_due : (i : ℕ) → i < length (ts_of client hands h s g) → is_owing (request_at (requests_of (ts_of client hands h s g)) i) ≡ true → 0 < times i (due_records s.log s.rows)
@@ -156,7 +156,7 @@ module _ (client : ClientState) (hands : List SessionHand) (h : List MemEntry) (
         omega (arith, a, b, c);
   }
 
-  log_acts : s.log ≡ log_of acts_of
+  pub log_acts : s.log ≡ log_of acts_of
   log_acts = sym (log_same client hands h s g) ∙ sym (course client hands h s g).events_are
 
   pub first_answered : (n : ℕ) → answered_in s.log answered n ≡ map (λ (x : Slip). x.index) (slips_of (take n acts_of))

@@ -87,7 +87,7 @@ le_split (suc m) zero le = inr (omega arith)
 le_split (suc m) (suc n) le = elim (le_split m n (omega arith)) as (λ s. (suc m ≤ suc n) ⊎ (suc m ≡ suc (suc n))) [ inl x ↦ inl (omega arith) | inr x ↦ inr (omega arith) ]
 
 module _ (h : List MemEntry) (acts : List Act) (each : (n : ℕ) (a : Act) → slice_get acts n ≡ Some a → IsAct h (take n acts) a) where
-  after_act : (n : ℕ) (a : Act) → slice_get acts n ≡ Some a → fronts_after (take (suc n) acts) ≡ a.fronts
+  pub after_act : (n : ℕ) (a : Act) → slice_get acts n ≡ Some a → fronts_after (take (suc n) acts) ≡ a.fronts
   after_act n a at = ap fronts_after (take_one acts n a at) ∙ fronts_of_last (take n acts) a
 
   same_act : (m n : ℕ) (a b : Act) → slice_get acts m ≡ Some a → slice_get acts n ≡ Some b → m ≡ n → AreWithin a.fronts b.fronts
@@ -116,7 +116,7 @@ module _ (h : List MemEntry) (acts : List Act) (each : (n : ℕ) (a : Act) → s
   rises = record {
     known = known_after;
     sent = λ n b e bt is. in_envelope h (take n acts) b b.event (each n b bt) e is;
-    received = λ m n a b s at bt lt is. within_trans (slip_fronts s) a.fronts b.fronts (in_slip h (take m acts) a a.event (each m a at) s is) (known_after m n a b at bt (omega arith));
+    received = λ m n a b s at bt lt is. within_trans (slip_fronts s) a.fronts b.fronts (in_slip h (take m acts) a a.event (each m a at) s is) (known_after m n a b at bt lt);
     entered = λ m n p a b at bt le is. let w = known_after m n a b at bt le in let g = (in_entry h (take m acts) a a.event (each m a at) p is).1 in omega (arith, w.memory, g);
     late = λ m n p a b at bt lt is. let w = known_before m n a b at bt lt in let g = (in_entry h (take n acts) b b.event (each n b bt) p is).0 in omega (arith, w.memory, g);
   }

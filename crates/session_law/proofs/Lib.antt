@@ -17,3 +17,11 @@ pub mod Right
 pub mod Once
 pub mod Received
 pub mod Due
+pub mod Closers
+pub mod Own
+pub mod Prefixes
+pub mod Drained
+pub mod Had
+pub mod Owners
+pub mod Spots
+pub mod Ordered

@@ -182,3 +182,10 @@ module _ {A : Type 0} where
         ∙ (ap length (filter_map-append f (take n xs) (x ∷ []))
         ∙ (length-append (filter_map f (take n xs)) (filter_map f (x ∷ []))
         ∙ ap (λ o. length (filter_map f (take n xs)) + length (cons_option o [])) is))
+
+    pub none_told : (xs : List A) (n : ℕ) (x : A) → slice_get xs n ≡ Some x → f x ≡ None → length (filter_map f (take (suc n) xs)) ≡ length (filter_map f (take n xs))
+    none_told xs n x at is =
+        let e : length (filter_map f (take (suc n) xs)) ≡ length (filter_map f (take n xs)) + length (cons_option (f x) []) =
+        ap (λ l. length (filter_map f l)) (take_one xs n x at) ∙ (ap length (filter_map-append f (take n xs) (x ∷ [])) ∙ length-append (filter_map f (take n xs)) (filter_map f (x ∷ []))) in
+        let z : length (cons_option (f x) []) ≡ 0 = ap (λ o. length (cons_option o [])) is in
+        omega (arith, e, z)

@@ -107,7 +107,7 @@ closed_still v m n h le some =
     let at = from_take h m c.1 c.2 c.3 in
     closed_by v c.0 c.1 (take n h) c.2 (in_take h n c.1 c.2 (let l = at.1 in omega arith) at.0) c.4
 
-none_there : (xs : List MemEntry) (j : ℕ) (e : MemEntry) → xs ≡ [] → slice_get xs j ≡ Some e → ⊥
+pub none_there : (xs : List MemEntry) (j : ℕ) (e : MemEntry) → xs ≡ [] → slice_get xs j ≡ Some e → ⊥
 none_there [] zero e n at = cc
 none_there [] (suc j) e n at = cc
 none_there (x ∷ xs) j e n at = cc n

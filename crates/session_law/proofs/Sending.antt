@@ -72,7 +72,7 @@ module _ (h : List MemEntry) (before : List Act) (a : Act) (v : Envelope) (at : 
   indexed Aborted is = none_is a.envelope v (IsIndexed Aborted) is.envelope at
 
 -- an event has an entry, or none
-entry_there : (before : List Event) (e : Event) → is_some (entry_after before e) ≡ has_entry e
+pub entry_there : (before : List Event) (e : Event) → is_some (entry_after before e) ≡ has_entry e
 entry_there before (Attached pages id) = refl
 entry_there before (NotAttached pages cause) = refl
 entry_there before (Filled id block count byte true) = refl

@@ -50,7 +50,7 @@ attach_is i _ e = absurd (cc)
 
 -- ---- how a log ends
 
-nothing_of : {A : Type 0} (xs : List A) (x y : A) → xs ++ x ∷ [] ≡ y ∷ [] → xs ≡ []
+pub nothing_of : {A : Type 0} (xs : List A) (x y : A) → xs ++ x ∷ [] ≡ y ∷ [] → xs ≡ []
 nothing_of [] x y e = refl
 nothing_of (z ∷ zs) x y e = let n : length (zs ++ x ∷ []) ≡ 0 = let m = ap length e in omega arith in absurd (let k = length_one zs x in omega arith)
   where
@@ -81,7 +81,7 @@ ends_so log before e is split only =
 module _ (client : ClientState) (hands : List SessionHand) (h : List MemEntry) (s : Session) (g : IsGathered client hands h s) (drained : EndsDrained client) (due : ReleaseClosed client.plan.hands h) where
   -- ---- what a record was lent
 
-  entries_told : filter is_client (events h) ≡ told client.log
+  pub entries_told : filter is_client (events h) ≡ told client.log
   entries_told = g.whole.client_of.told.entries
 
   once_attached : (v : ℕ) → length (filter_map (attachment_by v) (events h)) ≤ 1
@@ -126,16 +126,16 @@ module _ (client : ClientState) (hands : List SessionHand) (h : List MemEntry) (
 
   -- ---- the verdicts
 
-  abbrev verdict_in : Taking → Verdict
+  abbrev pub verdict_in : Taking → Verdict
   verdict_in t = t.verdict
 
-  taken_verdicts : map verdict_in (ts_of client hands h s g) ≡ verdicts_on (requests_of (ts_of client hands h s g)) (given_before client.log) client.plan.spec.part (length (ts_of client hands h s g))
+  pub taken_verdicts : map verdict_in (ts_of client hands h s g) ≡ verdicts_on (requests_of (ts_of client hands h s g)) (given_before client.log) client.plan.spec.part (length (ts_of client hands h s g))
   taken_verdicts = verdicts_are client.plan.spec.part client.plan.hands (client.plan.hands + 1) h (ts_of client hands h s g) (taken_whole client hands h s g) g.whole.memory_history.numbers (given_before client.log) lends
 
   pub row_count : length s.rows ≡ length (ts_of client hands h s g)
   row_count = ap length g.whole.rows_are ∙ length-map (ts_of client hands h s g) (row_in (landings (es_of client hands h s g)))
 
-  sent_verdicts : verdicts_on (requests_of (ts_of client hands h s g)) (given_before client.log) client.plan.spec.part (length (ts_of client hands h s g)) ≡ verdicts s.log s.range (length s.rows)
+  pub sent_verdicts : verdicts_on (requests_of (ts_of client hands h s g)) (given_before client.log) client.plan.spec.part (length (ts_of client hands h s g)) ≡ verdicts s.log s.range (length s.rows)
   sent_verdicts =
       let ts : List Taking = ts_of client hands h s g in let n : ℕ = length ts in
       let r = requests_are client hands h s g in

@@ -18,7 +18,7 @@ envelope_fronts e = record { device = e.device_front; memory = e.memory_front }
 pub record DoFrontsRise (acts : List Act) : Type 0 where
   pub known : (m n : ℕ) (a b : Act) → slice_get acts m ≡ Some a → slice_get acts n ≡ Some b → m ≤ n → AreWithin a.fronts b.fronts
   pub sent : (n : ℕ) (b : Act) (e : Envelope) → slice_get acts n ≡ Some b → b.envelope ≡ Some e → envelope_fronts e ≡ b.fronts
-  pub received : (m n : ℕ) (a b : Act) (s : Slip) → slice_get acts m ≡ Some a → slice_get acts n ≡ Some b → m < n → a.slip ≡ Some s → AreWithin (slip_fronts s) b.fronts
+  pub received : (m n : ℕ) (a b : Act) (s : Slip) → slice_get acts m ≡ Some a → slice_get acts n ≡ Some b → m ≤ n → a.slip ≡ Some s → AreWithin (slip_fronts s) b.fronts
   pub entered : (m n p : ℕ) (a b : Act) → slice_get acts m ≡ Some a → slice_get acts n ≡ Some b → m ≤ n → entry_place a ≡ Some p → p < b.fronts.memory
   pub late : (m n p : ℕ) (a b : Act) → slice_get acts m ≡ Some a → slice_get acts n ≡ Some b → m < n → entry_place b ≡ Some p → a.fronts.memory ≤ p
 

@@ -4,3 +4,5 @@ pub mod Taking
 pub mod Buffers
 pub mod Handing
 pub mod Answering
+pub mod Hands
+pub mod Ordering

@@ -2,6 +2,7 @@
 ghost use Rattle.session_law.specs.Answering.{DueAnswers};
 ghost use Rattle.session_law.specs.Buffers.{BuffersTold};
 ghost use Rattle.session_law.specs.Fronts.{FrontsRise};
+ghost use Rattle.session_law.specs.Ordering.{OrderKept};
 ghost use Rattle.session_law.specs.Taking.{TakenInOrder};
 
 /// What a client end knew as it sent a record: all that the slips received before told, and its own entries.
@@ -22,4 +23,9 @@ pub fn buffers_told()
 /// What a session's client received is what it was due, each answer once at most; after a drain each just once.
 pub fn due_answers()
     ensures { DueAnswers }
+{}
+
+/// What was answered before a record was sent stands before what the record does.
+pub fn order_kept()
+    ensures { OrderKept }
 {}
