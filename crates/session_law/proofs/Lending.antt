@@ -81,7 +81,7 @@ lent_by_log log h same i v = ap (λ l. slice_get l 0) (lent_client i v h ∙ ap 
 
 -- ---- a buffer is attached once
 
-attached_client : (v : ℕ) (h : List MemEvent) → filter_map (attachment_by v) h ≡ filter_map (attachment_by v) (filter is_client h)
+pub attached_client : (v : ℕ) (h : List MemEvent) → filter_map (attachment_by v) h ≡ filter_map (attachment_by v) (filter is_client h)
 attached_client v [] = refl
 attached_client v (Attach id pages from ∷ es) = ap (λ l. cons_option (attachment_by v (Attach id pages from)) l) (attached_client v es)
 attached_client v (_ ∷ es) = attached_client v es

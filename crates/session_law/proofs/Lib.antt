@@ -25,3 +25,5 @@ pub mod Had
 pub mod Owners
 pub mod Spots
 pub mod Ordered
+pub mod Seen
+pub mod Used

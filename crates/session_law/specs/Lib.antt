@@ -6,3 +6,4 @@ pub mod Handing
 pub mod Answering
 pub mod Hands
 pub mod Ordering
+pub mod Using

@@ -4,6 +4,7 @@ ghost use Rattle.session_law.specs.Buffers.{BuffersTold};
 ghost use Rattle.session_law.specs.Fronts.{FrontsRise};
 ghost use Rattle.session_law.specs.Ordering.{OrderKept};
 ghost use Rattle.session_law.specs.Taking.{TakenInOrder};
+ghost use Rattle.session_law.specs.Using.{UsedRightly};
 
 /// What a client end knew as it sent a record: all that the slips received before told, and its own entries.
 pub fn fronts_rise()
@@ -28,4 +29,9 @@ pub fn due_answers()
 /// What was answered before a record was sent stands before what the record does.
 pub fn order_kept()
     ensures { OrderKept }
+{}
+
+/// A client's fill or show was done, or not, as its buffer stood.
+pub fn used_rightly()
+    ensures { UsedRightly }
 {}

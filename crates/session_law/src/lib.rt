@@ -3,4 +3,4 @@
 
 mod laws;
 
-pub use laws::{buffers_told, due_answers, fronts_rise, order_kept, taken_in_order};
+pub use laws::{buffers_told, due_answers, fronts_rise, order_kept, taken_in_order, used_rightly};
