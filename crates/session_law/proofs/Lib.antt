@@ -27,3 +27,5 @@ pub mod Spots
 pub mod Ordered
 pub mod Seen
 pub mod Used
+pub mod Entries
+pub mod Lawful

@@ -125,7 +125,7 @@ module _ (client : ClientState) (hands : List SessionHand) (h : List MemEntry) (
       verdict_of : Taking → Verdict
       verdict_of x = x.verdict
 
-  request_is : (i : ℕ) (t : Taking) → slice_get (ts_of client hands h s g) i ≡ Some t → request_at (requests s.log) i ≡ request_in t
+  pub request_is : (i : ℕ) (t : Taking) → slice_get (ts_of client hands h s g) i ≡ Some t → request_at (requests s.log) i ≡ request_in t
   request_is i t at =
       let r = requests_are client hands h s g in
       let ts : List Taking = ts_of client hands h s g in

@@ -7,3 +7,5 @@ pub mod Answering
 pub mod Hands
 pub mod Ordering
 pub mod Using
+pub mod Carrying
+pub mod Lawful

@@ -2,6 +2,7 @@
 ghost use Rattle.session_law.specs.Answering.{DueAnswers};
 ghost use Rattle.session_law.specs.Buffers.{BuffersTold};
 ghost use Rattle.session_law.specs.Fronts.{FrontsRise};
+ghost use Rattle.session_law.specs.Lawful.{SessionsAreLawful};
 ghost use Rattle.session_law.specs.Ordering.{OrderKept};
 ghost use Rattle.session_law.specs.Taking.{TakenInOrder};
 ghost use Rattle.session_law.specs.Using.{UsedRightly};
@@ -34,4 +35,9 @@ pub fn order_kept()
 /// A client's fill or show was done, or not, as its buffer stood.
 pub fn used_rightly()
     ensures { UsedRightly }
+{}
+
+/// A session is lawful, where its hands kept what they keep.
+pub fn sessions_are_lawful()
+    ensures { SessionsAreLawful }
 {}

@@ -3,4 +3,7 @@
 
 mod laws;
 
-pub use laws::{buffers_told, due_answers, fronts_rise, order_kept, taken_in_order, used_rightly};
+pub use laws::{
+    buffers_told, due_answers, fronts_rise, order_kept, sessions_are_lawful, taken_in_order,
+    used_rightly,
+};
