@@ -1,19 +1,18 @@
 -- What the history of a session's buffers has, by the two ends of the session alone.
-use Rattle.std.proofs.Common.{◌≡◌, ℕ, zero, suc, ◌+◌, ◌<◌, ◌≤◌, ◌==◌, Bool, true, false, ◌&&◌, nat_eq, nat_le, cond, IsTrue, List, [], ◌∷◌, ◌++◌, filter, filter_map, length, map, Option, Some, None, refl, sym, ap, subst, ◌∙◌, arith}
+use Rattle.std.proofs.Common.{◌≡◌, ℕ, suc, ◌==◌, Bool, true, false, nat_eq, nat_le, cond, IsTrue, List, [], ◌∷◌, filter, filter_map, length, refl, sym, ap, subst, ◌∙◌, arith}
 use Rattle.std.specs.Bool.{then_some}
-use Rattle.std.specs.List.{cons_option, list_all, range_with_len}
+use Rattle.std.specs.List.{cons_option, range_with_len}
 use Rattle.std.proofs.lemmas.Bool.{le-leb}
 use Rattle.host_memory.specs.Held.{attachment_by, is_given_by}
 use Rattle.host_memory.specs.State.{events}
-use Rattle.host_model.specs.declared.event.Event.{Event}
 use Rattle.host_model.specs.declared.memory.MemEntry.{MemEntry}
 use Rattle.host_model.specs.declared.memory.MemEvent.{MemEvent}
 use Rattle.host_model.specs.declared.memory.MemEvent.TheVariants.{Attach, Release}
-use Rattle.host_model.specs.ClientEntries.{IsToldByLog, is_client, told}
+use Rattle.host_model.specs.ClientEntries.{is_client, told}
 use Rattle.host_model.specs.Lists.{all_with_before, count, map_with_before, same_counts, within_counts}
 use Rattle.host_model.specs.Log.{given}
-use Rattle.host_model.specs.Pages.{HasPages, found_by, lifts_page, shown_bytes}
-use Rattle.host_model.specs.Releases.{AreReleased, comes_before_release, is_release_of, pins_before_close, released, released_id}
+use Rattle.host_model.specs.Pages.{found_by, lifts_page, shown_bytes}
+use Rattle.host_model.specs.Releases.{comes_before_release, is_release_of, pins_before_close, released}
 use Rattle.host_model.specs.Session.{Session}
 use Rattle.host_model.proofs.ListTests.{all_pass, and-from}
 use Rattle.host_session.specs.declared.hand.SessionHand.{SessionHand}

@@ -1,11 +1,10 @@
 -- The record that closes a buffer by the client's log is the one whose close was taken.
-use Rattle.std.proofs.Common.{◌≡◌, ◌⊎◌, inl, inr, ℕ, zero, suc, ◌+◌, ◌<◌, ◌≤◌, ◌==◌, Bool, true, false, ◌&&◌, nat_lt, cond, List, [], ◌∷◌, ◌++◌, length, get_or, map, Option, Some, None, refl, sym, ap, ◌∙◌, arith, eq-eqb}
+use Rattle.std.proofs.Common.{◌≡◌, ℕ, zero, suc, ◌<◌, ◌==◌, Bool, true, false, ◌&&◌, nat_lt, cond, List, [], ◌∷◌, length, get_or, Option, Some, None, refl, sym, ap, ◌∙◌, arith, eq-eqb}
 use Rattle.std.specs.Prelude.{is_some, position, unwrap_or}
 use Rattle.std.specs.List.{list_any, slice_get, zip}
 use Rattle.std.proofs.lemmas.Bool.{eqb-true, ltb-false, ltb-true}
-use Rattle.std.proofs.lemmas.List.{length-map}
 use Rattle.std.proofs.lemmas.List.Quantifiers.{position-Some}
-use Rattle.std.proofs.lemmas.Option.{get_or_from_slice_get, slice_get-map}
+use Rattle.std.proofs.lemmas.Option.{get_or_from_slice_get}
 use Rattle.host_block.specs.declared.range.Range.{Range}
 use Rattle.host_record.specs.declared.opcode.Opcode.{Opcode}
 use Rattle.host_record.specs.declared.opcode.Opcode.TheVariants.{Read, Write, Flush, Trim, Close}
@@ -19,7 +18,7 @@ use Rattle.host_model.specs.Verdict.{close_in, closes, is_accepted, is_closed, j
 use Rattle.host_model.proofs.Growth.{length-verdicts_on, verdict_at}
 use Rattle.host_intake.proofs.Accepting.{accepted_attached}
 use Rattle.host_intake.proofs.Leaving.{position_none}
-use Rattle.session_law.proofs.Places.{any_here, one_before, some_at, within}
+use Rattle.session_law.proofs.Places.{any_here, within}
 
 -- ---- pairs
 

@@ -1,5 +1,5 @@
 -- The acts before a session was closed after a drain: all but the last.
-use Rattle.std.proofs.Common.{◌≡◌, ◌⊎◌, inl, inr, ℕ, zero, suc, ◌+◌, ◌<◌, ◌≤◌, Bool, true, false, not, cond, List, [], ◌∷◌, ◌++◌, filter, length, map, take, Option, Some, None, refl, sym, ap, subst, ◌∙◌, arith}
+use Rattle.std.proofs.Common.{◌≡◌, ℕ, zero, suc, ◌<◌, ◌≤◌, Bool, true, false, cond, List, [], ◌∷◌, ◌++◌, filter, length, take, Option, Some, refl, sym, ap, subst, ◌∙◌, arith}
 use Rattle.std.specs.Prelude.{unwrap_or}
 use Rattle.std.specs.List.{slice_get}
 use Rattle.std.specs.Option.{option_map}
@@ -15,7 +15,7 @@ use Rattle.host_session.specs.declared.fronts.Fronts.{Fronts}
 use Rattle.host_session.specs.Acts.{Act, IsAct, before_drained, fronts_after, is_drain_event, is_drained, log_of}
 use Rattle.host_session.specs.Client.{AreWithin, ends_logged}
 use Rattle.session_law.proofs.Fronts.{after_act, known_after}
-use Rattle.session_law.proofs.Places.{from_take, in_filter, in_take, some_at, within}
+use Rattle.session_law.proofs.Places.{from_take, in_filter, some_at, within}
 use Rattle.session_law.proofs.Taken.{nothing_of}
 
 drain_is : (e : Event) → is_drain_event e ≡ true → e ≡ Drained

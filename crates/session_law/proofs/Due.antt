@@ -1,23 +1,20 @@
 -- A session's client received the answers that it is due.
-use Rattle.std.proofs.Common.{◌≡◌, ℕ, zero, suc, ◌+◌, ◌<◌, ◌≤◌, Bool, true, false, not, nat_eq, nat_lt, cond, IsTrue, List, [], ◌∷◌, ◌++◌, length, filter, filter_map, map, take, Option, Some, None, refl, sym, ap, subst, ◌∙◌, arith}
+use Rattle.std.proofs.Common.{◌≡◌, ℕ, suc, ◌<◌, ◌≤◌, Bool, true, false, not, nat_eq, nat_lt, cond, List, [], ◌∷◌, ◌++◌, length, filter, map, take, Some, refl, sym, ap, subst, ◌∙◌, arith}
 use Rattle.std.specs.List.{slice_get}
-use Rattle.std.proofs.lemmas.Bool.{eqb-true, lt-ltb, ltb-true}
+use Rattle.std.proofs.lemmas.Bool.{eqb-true, lt-ltb}
 use Rattle.std.proofs.lemmas.List.{length-map, take-map}
 use Rattle.host_record.specs.declared.finish.Finish.{Finish}
 use Rattle.host_record.specs.declared.finish.Finish.TheVariants.{Drain, Abort}
 use Rattle.host_record.specs.declared.request.Request.{Request}
-use Rattle.host_model.specs.declared.event.Event.{Event}
 use Rattle.host_model.specs.declared.memory.MemEntry.{MemEntry}
-use Rattle.host_model.specs.declared.row.TakenRow.{TakenRow}
-use Rattle.host_model.specs.Answers.{AreDueAnswers, answer_bytes, is_answered_at_most, is_answered_exactly}
+use Rattle.host_model.specs.Answers.{AreDueAnswers, answer_bytes}
 use Rattle.host_model.specs.Groups.{is_owing, owed}
 use Rattle.host_model.specs.Lists.{below, count}
 use Rattle.host_model.specs.Log.{received, request_at, requests, sent}
 use Rattle.host_model.specs.Session.{Session}
 use Rattle.host_model.specs.Taking.{is_drain}
-use Rattle.host_group.specs.declared.seat.CellSeat.{CellSeat}
 use Rattle.host_rings.specs.declared.slip.Slip.{Slip}
-use Rattle.host_intake.specs.Entries.{Landing, Taking, landings, request_in, requests_of}
+use Rattle.host_intake.specs.Entries.{Landing, landings, request_in, requests_of}
 use Rattle.host_intake.specs.Told.{row_in}
 use Rattle.host_session.specs.declared.hand.SessionHand.{SessionHand}
 use Rattle.host_session.specs.Acts.{Act, log_of, slips_of}
@@ -30,7 +27,7 @@ use Rattle.session_law.specs.Answering.{DueAnswers}
 use Rattle.session_law.specs.Gathered.{IsGathered}
 use Rattle.session_law.specs.Handing.{PushedAsTold}
 use Rattle.session_law.proofs.Finding.{from_map}
-use Rattle.session_law.proofs.Gathered.{course, es_of, index_is, log_same, requests_are, ts_of}
+use Rattle.session_law.proofs.Gathered.{course, index_is, log_same, requests_are, ts_of}
 use Rattle.session_law.proofs.Handing.{answers_of, taken_due}
 use Rattle.session_law.proofs.Once.{answers_once, names}
 use Rattle.session_law.proofs.Received.{IsReceivedBy, first_slips, received_by}
@@ -39,7 +36,7 @@ use Rattle.session_law.proofs.Right.{IsRight, all_right, right_from, right_test,
 use Rattle.session_law.proofs.Sending.{more_sent, sent_until}
 use Rattle.session_law.proofs.Sums.{counted_none, none_counted, part_few, somewhere}
 
-filter_few : {A : Type 0} (p : A → Bool) (xs : List A) → length (filter p xs) ≤ length xs
+pub filter_few : {A : Type 0} (p : A → Bool) (xs : List A) → length (filter p xs) ≤ length xs
 filter_few p [] = omega arith
 filter_few p (x ∷ xs) = step (p x) (filter_few p xs)
   where

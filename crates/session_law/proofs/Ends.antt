@@ -1,30 +1,27 @@
 -- What the end of a group's instance tells of the record that closed it.
-use Rattle.std.proofs.Common.{◌≡◌, ◌⊎◌, inl, inr, ℕ, zero, suc, ◌+◌, ◌<◌, ◌≤◌, ◌==◌, Bool, true, false, ◌&&◌, nat_eq, cond, List, [], ◌∷◌, ◌++◌, length, filter, filter_map, map, take, Option, Some, None, refl, sym, ap, subst, ◌∙◌, arith, eq-eqb}
-use Rattle.std.specs.Prelude.{find, unwrap_or}
+use Rattle.std.proofs.Common.{◌≡◌, ℕ, zero, suc, ◌+◌, ◌<◌, ◌≤◌, ◌==◌, Bool, true, false, ◌&&◌, cond, List, [], ◌∷◌, length, filter, filter_map, map, take, Option, Some, None, refl, sym, ap, ◌∙◌, arith, eq-eqb}
+use Rattle.std.specs.Prelude.{unwrap_or}
 use Rattle.std.specs.List.{cons_option, slice_get}
-use Rattle.std.specs.Option.{option_map, option_map_or}
 use Rattle.std.proofs.lemmas.Bool.{eqb-true}
 use Rattle.host_record.specs.declared.request.Request.{Request}
 use Rattle.host_record.specs.Command.{is_last}
-use Rattle.host_record.specs.Request.{request_of}
 use Rattle.host_record.specs.Response.{response_bytes}
 use Rattle.host_model.specs.declared.row.TakenRow.{TakenRow}
 use Rattle.host_model.specs.Answers.{answer_bytes}
-use Rattle.host_model.specs.Groups.{closings, instance_of, is_closing, is_member, is_owing}
+use Rattle.host_model.specs.Groups.{closings, is_closing, is_member}
 use Rattle.host_model.specs.Lists.{below, count}
 use Rattle.host_model.specs.Log.{request_at}
 use Rattle.host_group.specs.declared.group_end.GroupEnd.{GroupEnd}
 use Rattle.host_group.specs.declared.view.Member.{Member}
 use Rattle.host_group.specs.declared.view.Row.{Row}
-use Rattle.host_group.specs.Ends.{IsEnd, closers_of, end_of, ends_of, instance_rows, members_of, row_of}
+use Rattle.host_group.specs.Ends.{IsEnd, end_of, ends_of, instance_rows, members_of, row_of}
 use Rattle.host_group.specs.Seats.{member}
-use Rattle.host_rings.specs.declared.slip.Slip.{Slip}
-use Rattle.host_intake.specs.Answers.{group_slip, row_slip}
+use Rattle.host_intake.specs.Answers.{group_slip}
 use Rattle.host_intake.specs.Laws.{HaveOutcomes}
 use Rattle.host_intake.specs.Members.{member_at, members}
 use Rattle.host_intake.proofs.EndAnswers.{answer_is, index_within}
 use Rattle.host_intake.proofs.Membering.{member_index}
-use Rattle.session_law.proofs.Finding.{from_filter, from_map, in_map, range_at}
+use Rattle.session_law.proofs.Finding.{from_filter, from_map, range_at}
 use Rattle.session_law.proofs.Places.{found_at, has_found}
 use Rattle.session_law.proofs.Sums.{bit, count_one}
 

@@ -1,13 +1,10 @@
 -- Each record has just the entries in the buffers' history that it has to have, and was carried out.
-use Rattle.std.proofs.Common.{◌≡◌, ◌⊎◌, inl, inr, ℕ, zero, suc, ◌+◌, ◌<◌, ◌≤◌, ◌==◌, Bool, true, false, not, ◌&&◌, nat_lt, cond, IsTrue, List, [], ◌∷◌, ◌++◌, filter, filter_map, length, map, take, drop, Option, Some, None, refl, sym, ap, subst, ◌∙◌, arith, append_assoc, eq-eqb, length-append}
-use Rattle.std.specs.Prelude.{is_some, unwrap_or}
+use Rattle.std.proofs.Common.{◌≡◌, ℕ, zero, suc, ◌+◌, ◌<◌, ◌≤◌, ◌==◌, Bool, true, false, cond, List, [], ◌∷◌, ◌++◌, filter_map, length, map, take, drop, Option, Some, None, refl, sym, ap, ◌∙◌, arith, append_assoc, eq-eqb, length-append}
 use Rattle.std.specs.Bool.{then_some}
-use Rattle.std.specs.List.{cons_option, list_all, slice_get}
-use Rattle.std.specs.Option.{option_map_or}
-use Rattle.std.proofs.lemmas.Bool.{eqb-true, lt-ltb}
-use Rattle.std.proofs.lemmas.List.{length-map, length-take-le, map-append, take-append-drop, drop-drop}
+use Rattle.std.specs.List.{cons_option, slice_get}
+use Rattle.std.proofs.lemmas.Bool.{eqb-true}
+use Rattle.std.proofs.lemmas.List.{map-append, take-append-drop}
 use Rattle.std.proofs.lemmas.List.Elements.{filter-append, filter_map-append}
-use Rattle.host_block.specs.declared.range.Range.{Range}
 use Rattle.host_record.specs.declared.opcode.Opcode.{Opcode}
 use Rattle.host_record.specs.declared.opcode.Opcode.TheVariants.{Read, Write, Flush, Trim, Close}
 use Rattle.host_record.specs.declared.request.Request.{Request}

@@ -1,30 +1,23 @@
 -- What is known of a session as it was gathered, in plain lists.
-use Rattle.std.proofs.Common.{◌≡◌, ◌⊎◌, inl, inr, ℕ, zero, suc, ◌+◌, ◌<◌, ◌≤◌, ◌==◌, Bool, true, false, not, cond, max, IsTrue, List, [], ◌∷◌, ◌++◌, filter, filter_map, length, map, take, drop, Option, Some, None, refl, sym, ap, subst, ◌∙◌, arith, append_assoc, length-append, eq-eqb}
-use Rattle.std.specs.Prelude.{is_some}
-use Rattle.std.specs.List.{list_all, list_any, slice_get}
+use Rattle.std.proofs.Common.{◌≡◌, ℕ, zero, suc, ◌+◌, ◌≤◌, Bool, true, false, List, [], ◌∷◌, ◌++◌, length, map, take, drop, Option, Some, None, refl, sym, ap, subst, ◌∙◌, arith, append_assoc, length-append}
+use Rattle.std.specs.List.{list_all, slice_get}
 use Rattle.std.specs.Option.{option_map}
-use Rattle.std.proofs.lemmas.Bool.{leb-true}
 use Rattle.std.proofs.lemmas.List.{length-map, map-append, take-append-drop}
 use Rattle.std.proofs.lemmas.Option.{slice_get-map}
 use Rattle.host_block.specs.declared.range.Range.{Range}
 use Rattle.host_group.specs.Ends.{greatest}
 use Rattle.host_intake.specs.declared.entry.IntakeEntry.{IntakeEntry}
-use Rattle.host_intake.specs.declared.entry.Phase.{Phase}
 use Rattle.host_intake.specs.declared.entry.Phase.TheVariants as phase
 use Rattle.host_intake.specs.declared.plan.IntakePlan.{IntakePlan}
 use Rattle.host_intake.specs.Entries.{Taking, envelope_of, maker_of, place_of, request_in, requests_of, takings}
 use Rattle.host_intake.specs.Intaken.{is_turned_below}
-use Rattle.host_intake.specs.State.{IntakeState}
 use Rattle.host_intake.specs.Takings.{AreTaken}
-use Rattle.host_intake.specs.Told.{memory_front_in, phase_in, seen_of, turns}
+use Rattle.host_intake.specs.Told.{memory_front_in, seen_of, turns}
 use Rattle.host_intake.proofs.Judging.{taken_longer}
 use Rattle.host_intake.proofs.Verdicts.{numbered_place}
-use Rattle.host_memory.specs.Numbers.{is_numbered}
-use Rattle.host_memory.specs.State.{events}
-use Rattle.host_model.specs.declared.event.Event.{Event}
 use Rattle.host_model.specs.declared.memory.MemEntry.{MemEntry}
 use Rattle.host_model.specs.Log.{requests, sent}
-use Rattle.host_model.specs.Lists.{below, last}
+use Rattle.host_model.specs.Lists.{last}
 use Rattle.host_model.specs.Session.{Session}
 use Rattle.host_record.specs.declared.finish.Finish.{Finish}
 use Rattle.host_record.specs.declared.finish.Finish.TheVariants.{Drain, Abort}
@@ -34,9 +27,8 @@ use Rattle.host_rings.specs.declared.envelope.Envelope.{Envelope}
 use Rattle.host_turn.specs.History.{entries_of}
 use Rattle.host_turn.specs.Seats.{number, seen_by}
 use Rattle.host_session.specs.declared.hand.SessionHand.{SessionHand}
-use Rattle.host_session.specs.Acts.{Act, IsCourse}
+use Rattle.host_session.specs.Acts.{IsCourse}
 use Rattle.host_session.specs.Client.{ClientState, turns_made}
-use Rattle.host_session.specs.Whole.{IsWhole}
 use Rattle.host_session.proofs.Turning.{turns_same}
 use Rattle.session_law.specs.Gathered.{IsGathered}
 use Rattle.session_law.proofs.Places.{in_front}

@@ -1,11 +1,10 @@
 -- An answer that was had before an event was received in a slip of an earlier act, whose fronts are past all that it answers.
-use Rattle.std.proofs.Common.{◌≡◌, ◌⊎◌, inl, inr, ℕ, zero, suc, ◌+◌, ◌<◌, ◌≤◌, ◌==◌, Bool, true, false, not, ◌&&◌, nat_eq, nat_lt, cond, IsTrue, List, [], ◌∷◌, ◌++◌, length, filter, filter_map, map, take, drop, Option, Some, None, refl, sym, ap, subst, ◌∙◌, arith, length-append}
-use Rattle.std.specs.Prelude.{find}
+use Rattle.std.proofs.Common.{◌≡◌, ℕ, ◌<◌, ◌≤◌, true, false, ◌&&◌, nat_lt, cond, List, ◌++◌, length, filter_map, map, take, drop, Option, Some, None, refl, sym, ap, ◌∙◌, arith}
 use Rattle.std.specs.Str.{bytes_eq}
-use Rattle.std.specs.List.{range_with_len, slice_get}
+use Rattle.std.specs.List.{slice_get}
 use Rattle.std.specs.Option.{option_map_or}
 use Rattle.std.proofs.lemmas.Bool.{eqb-true, lt-ltb, ltb-true}
-use Rattle.std.proofs.lemmas.List.{length-map, map-append, take-append-drop}
+use Rattle.std.proofs.lemmas.List.{map-append, take-append-drop}
 use Rattle.std.proofs.lemmas.List.Elements.{filter_map-append}
 use Rattle.std.proofs.lemmas.List.FromFn.{length-range_with_len}
 use Rattle.host_record.specs.declared.request.Request.{Request}
@@ -16,11 +15,11 @@ use Rattle.host_model.specs.Answers.{answer_bytes, due}
 use Rattle.host_model.specs.Groups.{answers_for, is_owing, owed, owing_record}
 use Rattle.host_model.specs.Lists.{below, count}
 use Rattle.host_model.specs.Log.{received, request_at, requests, sent, sent_bytes}
-use Rattle.host_model.specs.Order.{HadBefore, had_in, is_received}
+use Rattle.host_model.specs.Order.{HadBefore, is_received}
 use Rattle.host_model.specs.Session.{Session}
 use Rattle.host_model.proofs.ListTests.{both}
 use Rattle.host_rings.specs.declared.slip.Slip.{Slip}
-use Rattle.host_intake.specs.Entries.{Landing, Taking, landings, request_in, requests_of}
+use Rattle.host_intake.specs.Entries.{Landing, requests_of}
 use Rattle.host_intake.proofs.Verdicts.{numbered_place}
 use Rattle.host_session.specs.declared.hand.SessionHand.{SessionHand}
 use Rattle.host_session.specs.Acts.{Act}
@@ -32,13 +31,11 @@ use Rattle.host_session.proofs.Times.{range_has, times-filter}
 use Rattle.session_law.specs.Gathered.{IsGathered}
 use Rattle.session_law.specs.Handing.{PushedAsTold}
 use Rattle.session_law.specs.Hands.{Ended}
-use Rattle.session_law.proofs.Due.{acts_of, all_landed, answered, answered_by_act, are_answered, asked_count, ls_of, received_right, row_many, sent_before}
+use Rattle.session_law.proofs.Due.{acts_of, answered, answered_by_act, are_answered, asked_count, ls_of, received_right, row_many, sent_before}
 use Rattle.session_law.proofs.Finding.{find_place}
-use Rattle.session_law.proofs.Gathered.{course, requests_are, ts_of}
+use Rattle.session_law.proofs.Gathered.{requests_are, ts_of}
 use Rattle.session_law.proofs.Places.{has_found, within}
 use Rattle.session_law.proofs.Prefixes.{answers_before, answers_earlier, owing_from}
-use Rattle.session_law.proofs.Received.{IsReceivedBy}
-use Rattle.session_law.proofs.Right.{IsRight}
 
 -- the requests of the first events are the first of all
 requests_split : (log : List Event) (n : ℕ) → (rest : List Request) × (requests log ≡ requests (take n log) ++ rest)

@@ -1,28 +1,27 @@
 -- Each record that was taken ended once, and its row has how it ended.
-use Rattle.std.proofs.Common.{◌≡◌, ◌⊎◌, inl, inr, ℕ, zero, suc, ◌+◌, ◌<◌, ◌≤◌, ◌==◌, Bool, true, false, not, nat_eq, nat_lt, cond, IsTrue, List, [], ◌∷◌, ◌++◌, length, filter, filter_map, map, get_or, Option, Some, None, refl, sym, ap, subst, ◌∙◌, arith}
-use Rattle.std.specs.Prelude.{find, unwrap_or}
-use Rattle.std.specs.List.{list_any, list_all, range_with_len, slice_get}
+use Rattle.std.proofs.Common.{◌≡◌, ℕ, zero, suc, ◌+◌, ◌<◌, ◌≤◌, Bool, true, false, not, nat_eq, cond, List, [], ◌∷◌, length, filter, map, get_or, Some, refl, sym, ap, ◌∙◌, arith}
+use Rattle.std.specs.Prelude.{find}
+use Rattle.std.specs.List.{list_any, slice_get}
 use Rattle.std.specs.Option.{option_map, option_map_or}
-use Rattle.std.proofs.lemmas.Bool.{eqb-true, eq-eqb, ltb-true}
+use Rattle.std.proofs.lemmas.Bool.{eq-eqb}
 use Rattle.std.proofs.lemmas.List.{length-map}
 use Rattle.std.proofs.lemmas.List.FromFn.{length-range_with_len}
 use Rattle.std.proofs.lemmas.Option.{get_or_from_slice_get, slice_get-map}
 use Rattle.host_intake.specs.Entries.{Landing, Taking, is_landing_of, place_of}
-use Rattle.host_intake.specs.Members.{AreLanded, is_by_taker}
+use Rattle.host_intake.specs.Members.{AreLanded}
 use Rattle.host_intake.specs.Told.{is_open, outcome_in, row_in}
 use Rattle.host_intake.proofs.Admitting.{taken_at}
 use Rattle.host_model.specs.declared.row.TakenRow.{TakenRow}
 use Rattle.host_model.specs.declared.verdict.Verdict.TheVariants.{Refused}
 use Rattle.host_model.specs.Lists.{below, count}
 use Rattle.host_model.specs.Taking.{row_at}
-use Rattle.host_record.specs.declared.status.Status.{Status}
 use Rattle.host_record.specs.declared.status.Status.TheVariants as status
 use Rattle.host_session.specs.Counting.{times}
 use Rattle.host_session.proofs.Counting.{count-map}
-use Rattle.host_session.proofs.Times.{StandsOnce, as_many_pass, count_split, range_has, range_once, range_within, times-filter}
+use Rattle.host_session.proofs.Times.{StandsOnce, as_many_pass, count_split, range_once, times-filter}
 use Rattle.session_law.proofs.Lending.{eq_flip}
-use Rattle.session_law.proofs.Places.{any_at, any_here}
-use Rattle.session_law.proofs.Sums.{bit, count_one, counted_here, somewhere}
+use Rattle.session_law.proofs.Places.{any_at}
+use Rattle.session_law.proofs.Sums.{bit, count_one, counted_here}
 
 index_of : Landing → ℕ
 index_of l = l.index

@@ -1,19 +1,15 @@
 -- A session is lawful, where its hands kept what they keep.
-use Rattle.std.proofs.Common.{◌≡◌, ◌⊎◌, inl, inr, ℕ, zero, suc, ◌+◌, ◌<◌, ◌≤◌, ◌==◌, Bool, true, false, ◌&&◌, nat_lt, IsTrue, List, [], ◌∷◌, ◌++◌, filter, filter_map, length, map, take, drop, Option, Some, None, refl, sym, ap, subst, ◌∙◌, arith, eq-eqb}
-use Rattle.std.specs.Prelude.{unwrap_or}
+use Rattle.std.proofs.Common.{◌≡◌, ◌⊎◌, inl, inr, ℕ, zero, suc, ◌+◌, ◌<◌, ◌≤◌, ◌==◌, Bool, true, ◌&&◌, nat_lt, List, [], ◌∷◌, ◌++◌, filter, filter_map, length, map, Option, Some, None, refl, sym, ap, subst, ◌∙◌, arith, eq-eqb}
 use Rattle.std.specs.List.{list_all, slice_get}
 use Rattle.std.specs.Option.{option_map_or}
 use Rattle.std.proofs.lemmas.Bool.{eqb-true, lt-ltb}
 use Rattle.std.proofs.lemmas.Option.{get_or_from_slice_get}
-use Rattle.host_record.specs.declared.request.Request.{Request}
-use Rattle.host_record.specs.declared.status.Status.{Status}
 use Rattle.host_record.specs.declared.status.Status.TheVariants as status
 use Rattle.host_record.specs.Command.{opcode}
 use Rattle.host_model.specs.declared.memory.MemEntry.{MemEntry}
 use Rattle.host_model.specs.declared.memory.MemEvent.{MemEvent}
 use Rattle.host_model.specs.declared.row.TakenRow.{TakenRow}
 use Rattle.host_model.specs.declared.step.Step.{Step}
-use Rattle.host_model.specs.declared.verdict.Verdict.{Verdict}
 use Rattle.host_model.specs.declared.verdict.Verdict.TheVariants.{Refused}
 use Rattle.host_model.specs.Buffers.{IsBufferHistory}
 use Rattle.host_model.specs.Carrying.{AreCarriedOut, IsCarriedOut, asked, asked_in, carries_out, outcome_of, steps_of}
@@ -26,13 +22,13 @@ use Rattle.host_memory.specs.State.{events}
 use Rattle.host_intake.specs.declared.entry.IntakeEntry.{IntakeEntry}
 use Rattle.host_intake.specs.declared.entry.IntakeEntry.TheVariants.{Took, Landed, Passed, Turned}
 use Rattle.host_intake.specs.Entries.{Landing, Taking, landings, maker_of, place_of, request_in, taking_of, takings}
-use Rattle.host_intake.specs.Takings.{left_by, made, made_for, made_under}
+use Rattle.host_intake.specs.Takings.{made, made_for, made_under}
 use Rattle.host_intake.specs.Told.{row_in}
 use Rattle.host_session.specs.declared.hand.SessionHand.{SessionHand}
 use Rattle.host_session.specs.Client.{ClientState}
-use Rattle.session_law.specs.Carrying.{AreCarried, IsCarried, moves_for, moves_owed}
+use Rattle.session_law.specs.Carrying.{IsCarried, moves_for, moves_owed}
 use Rattle.session_law.specs.Gathered.{IsGathered}
-use Rattle.session_law.specs.Hands.{Ended, KeepFronts, steps_in}
+use Rattle.session_law.specs.Hands.{Ended}
 use Rattle.session_law.specs.Lawful.{AreKept, SessionsAreLawful}
 use Rattle.session_law.proofs.Buffers.{told_so}
 use Rattle.session_law.proofs.Due.{all_landed, due_so}

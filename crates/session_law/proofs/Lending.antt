@@ -1,5 +1,5 @@
 -- What the buffers' history lends to a record is what the client's log tells.
-use Rattle.std.proofs.Common.{◌≡◌, ℕ, zero, suc, ◌+◌, ◌<◌, ◌≤◌, ◌==◌, Bool, true, false, ◌&&◌, nat_eq, nat_le, cond, if◌then◌else◌, List, [], ◌∷◌, ◌++◌, filter, filter_map, length, take, drop, Option, Some, None, refl, sym, ap, ◌∙◌, arith, append-nil, eq-eqb}
+use Rattle.std.proofs.Common.{◌≡◌, ℕ, zero, suc, ◌+◌, ◌<◌, ◌≤◌, ◌==◌, Bool, true, false, nat_eq, nat_le, cond, if◌then◌else◌, List, [], ◌∷◌, ◌++◌, filter, filter_map, length, take, drop, Option, Some, None, refl, sym, ap, ◌∙◌, arith, append-nil, eq-eqb}
 use Rattle.std.specs.Bool.{then_some}
 use Rattle.std.specs.List.{cons_option, range_with_len, slice_get}
 use Rattle.std.proofs.lemmas.Bool.{and_right, eqb-true}
@@ -14,7 +14,7 @@ use Rattle.host_model.specs.ClientEntries.{entry_after, is_client, lent_by, lent
 use Rattle.host_model.specs.Lists.{map_after}
 use Rattle.host_model.specs.Log.{given, given_before, sent}
 use Rattle.host_model.proofs.Lent.{lent_in-told}
-use Rattle.host_memory.specs.Held.{Attachment, attachment_by}
+use Rattle.host_memory.specs.Held.{attachment_by}
 use Rattle.host_memory.specs.State.{events}
 use Rattle.host_session.specs.Counting.{times}
 use Rattle.host_session.proofs.Times.{range_once}

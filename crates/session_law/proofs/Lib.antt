@@ -29,3 +29,4 @@ pub mod Seen
 pub mod Used
 pub mod Entries
 pub mod Lawful
+pub mod Draining

@@ -1,10 +1,9 @@
 -- No two answers are those of one record.
-use Rattle.std.proofs.Common.{◌≡◌, ◌⊎◌, inl, inr, ℕ, zero, suc, ◌+◌, ◌<◌, ◌≤◌, ◌==◌, Bool, true, false, not, ◌&&◌, nat_eq, nat_lt, cond, List, [], ◌∷◌, ◌++◌, length, filter, filter_map, map, reverse, Option, Some, None, refl, sym, ap, subst, ◌∙◌, arith, eq-eqb}
+use Rattle.std.proofs.Common.{◌≡◌, ◌⊎◌, inl, inr, ℕ, suc, ◌+◌, ◌≤◌, ◌==◌, Bool, true, false, nat_eq, nat_lt, cond, List, [], ◌∷◌, length, filter, map, reverse, Option, Some, None, refl, sym, ap, ◌∙◌, arith, eq-eqb}
 use Rattle.std.specs.Prelude.{find, unwrap_or}
 use Rattle.std.specs.List.{slice_get}
 use Rattle.std.specs.Option.{option_map, option_map_or}
 use Rattle.std.proofs.lemmas.Bool.{eqb-true, ltb-false, ltb-true}
-use Rattle.host_record.specs.declared.request.Request.{Request}
 use Rattle.host_model.specs.Groups.{is_member}
 use Rattle.host_model.specs.Lists.{count}
 use Rattle.host_model.specs.Log.{request_at}
@@ -17,18 +16,17 @@ use Rattle.host_group.specs.Seats.{admitted, back}
 use Rattle.host_group.specs.Views.{total}
 use Rattle.host_group.specs.Views as cell
 use Rattle.host_rings.specs.declared.slip.Slip.{Slip}
-use Rattle.host_intake.specs.declared.entry.RecordEnd.{RecordEnd}
 use Rattle.host_intake.specs.Answers.{group_slip, row_slip}
 use Rattle.host_intake.specs.Entries.{Landing, Taking, is_landing_of, requests_of}
 use Rattle.host_intake.specs.Members.{Ending, is_of_member, landing_ending, member_at, members, row_ending}
 use Rattle.host_session.proofs.Counting.{count-map}
-use Rattle.session_law.proofs.Ends.{few_ends, member_says}
+use Rattle.session_law.proofs.Ends.{few_ends}
 use Rattle.session_law.proofs.Finding.{find_place}
 use Rattle.session_law.proofs.Handing.{answers_of}
 use Rattle.session_law.proofs.Landings.{landings_once}
 use Rattle.session_law.proofs.Returned.{AreAllLanded, end_told, have_row, row_is}
 use Rattle.session_law.proofs.Right.{answer_is_of, closer_member}
-use Rattle.session_law.proofs.Sums.{bit, count_filter, count_one, count_reverse, count_told, count_within, none_counted, somewhere}
+use Rattle.session_law.proofs.Sums.{bit, count_filter, count_one, count_reverse, count_told, count_within, somewhere}
 
 -- a slip that names record z
 abbrev pub names : ℕ → Slip → Bool

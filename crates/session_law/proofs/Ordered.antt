@@ -1,14 +1,13 @@
 -- What was answered before a record was sent stands before what the record does.
-use Rattle.std.proofs.Common.{◌≡◌, ◌⊎◌, inl, inr, ℕ, zero, suc, ◌+◌, ◌<◌, ◌≤◌, ◌==◌, Bool, true, false, nat_lt, cond, List, [], ◌∷◌, ◌++◌, filter, filter_map, length, map, take, drop, Option, Some, None, refl, sym, ap, subst, ◌∙◌, arith}
-use Rattle.std.specs.Prelude.{Contains, is_some, unwrap_or}
-use Rattle.std.specs.List.{cons_option, slice_get}
+use Rattle.std.proofs.Common.{◌≡◌, ◌⊎◌, inl, inr, ℕ, suc, ◌+◌, ◌<◌, ◌≤◌, ◌==◌, Bool, true, false, List, [], filter_map, length, take, drop, Option, Some, None, refl, sym, ap, ◌∙◌, arith}
+use Rattle.std.specs.Prelude.{Contains, unwrap_or}
+use Rattle.std.specs.List.{slice_get}
 use Rattle.std.specs.Option.{option_eq}
 use Rattle.std.proofs.lemmas.Bool.{eqb-true}
 use Rattle.std.proofs.lemmas.List.{take-map, length-map}
 use Rattle.host_model.specs.declared.event.Event.{Event}
 use Rattle.host_model.specs.declared.event.Event.TheVariants.{Attached, NotAttached, Filled, Shown, Sent, Received, Drained, Aborted}
 use Rattle.host_model.specs.declared.memory.MemEntry.{MemEntry}
-use Rattle.host_model.specs.declared.memory.MemEvent.{MemEvent}
 use Rattle.host_model.specs.declared.memory.MemEvent.TheVariants.{Release}
 use Rattle.host_model.specs.declared.step.Step.{Step}
 use Rattle.host_model.specs.ClientEntries.{is_client}
@@ -16,38 +15,36 @@ use Rattle.host_model.specs.ClientEntries.{told as host_told}
 use Rattle.host_model.specs.Laws.{IsInOrder, StandBefore}
 use Rattle.host_model.specs.Lists.{below, count, places}
 use Rattle.host_model.specs.Log.{sending, sent, sent_bytes}
-use Rattle.host_model.specs.Order.{HadBefore, KeepsOrder, client_places, entry_places, owner, step_places, told_by}
+use Rattle.host_model.specs.Order.{client_places, entry_places, owner, step_places, told_by}
 use Rattle.host_model.specs.RecordEntries.{index_of}
 use Rattle.host_model.specs.Session.{Session}
 use Rattle.host_model.specs.Taking.{is_end}
 use Rattle.host_model.specs.Verdict.{close_of}
 use Rattle.host_model.proofs.Ordering.{order_is_kept}
-use Rattle.host_memory.specs.State.{events}
 use Rattle.host_rings.specs.declared.envelope.Envelope.{Envelope}
-use Rattle.host_rings.specs.declared.slip.Slip.{Slip}
 use Rattle.host_intake.specs.Entries.{Landing, Taking, landings, request_in, takings}
 use Rattle.host_intake.specs.Takings.{made}
 use Rattle.host_intake.proofs.Verdicts.{numbered_place}
 use Rattle.host_session.specs.declared.fronts.Fronts.{Fronts}
 use Rattle.host_session.specs.declared.hand.SessionHand.{SessionHand}
-use Rattle.host_session.specs.Acts.{Act, IsCourse, entry_place, log_of}
+use Rattle.host_session.specs.Acts.{Act, entry_place}
 use Rattle.host_session.specs.Client.{AreWithin, ClientState, slip_fronts}
 use Rattle.session_law.specs.Fronts.{DoFrontsRise, envelope_fronts}
 use Rattle.session_law.specs.Gathered.{EndsDrained, IsGathered}
 use Rattle.session_law.specs.Handing.{PushedAsTold}
-use Rattle.session_law.specs.Hands.{Ended, IsMoveDone, IsStepDone, KeepFronts, steps_in}
+use Rattle.session_law.specs.Hands.{Ended, KeepFronts, steps_in}
 use Rattle.session_law.specs.Ordering.{OrderKept}
 use Rattle.session_law.proofs.Closers.{IsClosing}
-use Rattle.session_law.proofs.Due.{acts_of, all_landed, log_acts, ls_of}
+use Rattle.session_law.proofs.Due.{all_landed, log_acts}
 use Rattle.session_law.proofs.Finding.{in_map}
-use Rattle.session_law.proofs.Gathered.{course, envelope_at, index_is, log_same, sent_count, taken_whole, ts_of}
+use Rattle.session_law.proofs.Gathered.{course, envelope_at, sent_count, taken_whole}
 use Rattle.session_law.proofs.Had.{IsHad, had}
-use Rattle.session_law.proofs.Owners.{IsCloseEntry, client_none, close_sent, close_says, close_taken, hand_is, late_release, own_entry, owner_cases, release_place, released_by_taken}
-use Rattle.session_law.proofs.Places.{found_at, from_drop, from_take, has_found, none_told, only_at, some_at, unrank, within}
+use Rattle.session_law.proofs.Owners.{IsCloseEntry, client_none, close_says, close_taken, hand_is, late_release, own_entry, owner_cases, release_place, released_by_taken}
+use Rattle.session_law.proofs.Places.{found_at, from_drop, from_take, has_found, none_told, only_at, some_at, unrank}
 use Rattle.session_law.proofs.Prefixes.{count_between}
 use Rattle.session_law.proofs.Released.{entry_at, one_release}
 use Rattle.session_law.proofs.Returned.{landing_at}
-use Rattle.session_law.proofs.Sending.{IsSentBy, fronts_of, sent_by, sent_until}
+use Rattle.session_law.proofs.Sending.{fronts_of, sent_by}
 use Rattle.session_law.proofs.Spots.{filter_at, in_contains, sending_is, take_told, told_count}
 
 owned_is : (o : Option ℕ) (r : ℕ) → option_eq ◌==◌ o (Some r) ≡ true → o ≡ Some r

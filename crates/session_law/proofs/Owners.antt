@@ -1,12 +1,11 @@
 -- Which record each entry of a session's buffers belongs to, and between which fronts it stands.
-use Rattle.std.proofs.Common.{◌≡◌, ◌⊎◌, inl, inr, ℕ, zero, suc, ◌+◌, ◌<◌, ◌≤◌, ◌==◌, Bool, true, false, ◌&&◌, ◌||◌, nat_lt, cond, IsTrue, List, [], ◌∷◌, ◌++◌, filter, length, map, take, Option, Some, None, refl, sym, ap, subst, ◌∙◌, arith, eq-eqb}
+use Rattle.std.proofs.Common.{◌≡◌, ◌⊎◌, inl, inr, ℕ, zero, suc, ◌+◌, ◌<◌, ◌≤◌, ◌==◌, Bool, true, false, nat_lt, List, [], ◌∷◌, ◌++◌, filter, length, map, take, Option, Some, None, refl, sym, ap, ◌∙◌, arith, eq-eqb}
 use Rattle.std.specs.Prelude.{is_some, unwrap_or}
-use Rattle.std.specs.List.{list_all, slice_get}
+use Rattle.std.specs.List.{slice_get}
 use Rattle.std.proofs.lemmas.Bool.{eqb-true, ltb-false, ltb-true}
 use Rattle.std.proofs.lemmas.List.{length-map}
 use Rattle.std.proofs.lemmas.Option.{get_or_from_slice_get}
-use Rattle.host_record.specs.declared.finish.Finish.{Finish}
-use Rattle.host_record.specs.declared.finish.Finish.TheVariants.{Drain, Abort}
+use Rattle.host_record.specs.declared.finish.Finish.TheVariants.{Drain}
 use Rattle.host_record.specs.declared.opcode.Opcode.{Opcode}
 use Rattle.host_record.specs.declared.opcode.Opcode.TheVariants.{Read, Write, Flush, Trim, Close}
 use Rattle.host_record.specs.declared.request.Request.{Request}
@@ -18,38 +17,34 @@ use Rattle.host_model.specs.declared.memory.MemEntry.{MemEntry}
 use Rattle.host_model.specs.declared.memory.MemEvent.{MemEvent}
 use Rattle.host_model.specs.declared.memory.MemEvent.TheVariants.{Attach, Fill, Show, Pin, Lift, Land, Done, Release}
 use Rattle.host_model.specs.declared.memory.MemEvent.TheVariants as mem
-use Rattle.host_model.specs.declared.step.Step.{Step}
 use Rattle.host_model.specs.declared.verdict.Verdict.{Verdict}
 use Rattle.host_model.specs.declared.verdict.Verdict.TheVariants.{Accepted, Refused}
-use Rattle.host_model.specs.Log.{given_before, request_at, requests, sent, sent_bytes}
+use Rattle.host_model.specs.Log.{given_before, request_at, requests, sent}
 use Rattle.host_model.specs.Order.{owner}
 use Rattle.host_model.specs.RecordEntries.{index_of}
 use Rattle.host_model.specs.Session.{Session}
 use Rattle.host_model.specs.Taking.{is_end}
-use Rattle.host_model.specs.Verdict.{close_in, close_of, closes, verdict_after, verdicts, verdicts_on}
+use Rattle.host_model.specs.Verdict.{close_in, close_of, closes, verdict_after, verdicts_on}
 use Rattle.host_memory.specs.Held.{closer_of}
 use Rattle.host_memory.specs.Numbers.{is_numbered}
 use Rattle.host_memory.specs.State.{events}
 use Rattle.host_turn.specs.History.{entries_of}
-use Rattle.host_rings.specs.declared.envelope.Envelope.{Envelope}
-use Rattle.host_intake.specs.Entries.{Landing, Taking, landings, place_of, request_in, requests_of, takings}
+use Rattle.host_intake.specs.Entries.{Taking, place_of, request_in, requests_of}
 use Rattle.host_intake.specs.Takings.{left_by, made, made_for, made_under, under}
 use Rattle.host_intake.proofs.Readiness.{all_at}
-use Rattle.host_session.specs.declared.fronts.Fronts.{Fronts}
 use Rattle.host_session.specs.declared.hand.SessionHand.{SessionHand}
 use Rattle.host_session.specs.Acts.{Act, before_drained, fronts_after, log_of}
-use Rattle.host_session.specs.Client.{AreWithin, ClientState, ends_logged, is_drained}
+use Rattle.host_session.specs.Client.{ClientState, ends_logged, is_drained}
 use Rattle.host_session.specs.Told.{is_by_client, is_release}
 use Rattle.session_law.specs.Gathered.{EndsDrained, IsGathered, ReleaseClosed}
 use Rattle.session_law.proofs.Closers.{IsClosing, close_found, close_is, closes_by, closing_from, closing_says, verdict_there}
 use Rattle.session_law.proofs.Drained.{before_drain}
 use Rattle.session_law.proofs.Finding.{in_map}
-use Rattle.session_law.proofs.Gathered.{closed, course, envelope_at, index_is, log_same, requests_are, taken_few, taken_whole, ts_of}
+use Rattle.session_law.proofs.Gathered.{closed, course, index_is, requests_are, taken_few, taken_whole, ts_of}
 use Rattle.session_law.proofs.Own.{IsOwn, own_place}
-use Rattle.session_law.proofs.Places.{from_take, in_filter, only_at, within}
+use Rattle.session_law.proofs.Places.{from_take, in_filter, within}
 use Rattle.session_law.proofs.Released.{close_place, event_at, left_at, none_there, one_release, released_closed}
-use Rattle.session_law.proofs.Sending.{IsSentBy, sent_by}
-use Rattle.session_law.proofs.Taken.{row_count, sent_verdicts, taken_verdicts, verdict_in}
+use Rattle.session_law.proofs.Taken.{row_count, sent_verdicts, taken_verdicts}
 
 -- ---- one entry
 

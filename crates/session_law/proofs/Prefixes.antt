@@ -1,9 +1,9 @@
 -- Requests as more are sent: which record answers which.
-use Rattle.std.proofs.Common.{◌≡◌, ◌⊎◌, inl, inr, ℕ, zero, suc, ◌+◌, ◌≤◌, ◌<◌, ◌==◌, Bool, true, false, not, ◌&&◌, ◌||◌, nat_lt, cond, List, [], ◌∷◌, ◌++◌, length, take, drop, Option, Some, None, refl, sym, ap, ap₂, ◌∙◌, arith, eq-eqb}
+use Rattle.std.proofs.Common.{◌≡◌, ◌⊎◌, inl, inr, ℕ, zero, suc, ◌+◌, ◌≤◌, ◌<◌, ◌==◌, Bool, true, false, not, ◌&&◌, ◌||◌, nat_lt, cond, List, [], ◌∷◌, ◌++◌, length, take, drop, Some, None, refl, sym, ap, ap₂, ◌∙◌, arith, eq-eqb}
 use Rattle.std.specs.List.{slice_get}
 use Rattle.std.proofs.Math.ListN.{get_or-append}
 use Rattle.std.proofs.lemmas.Bool.{eqb-true, ltb-false, ltb-true}
-use Rattle.std.proofs.lemmas.List.{get_or_past, take-append-drop, take-append-le, take-take}
+use Rattle.std.proofs.lemmas.List.{take-append-drop, take-append-le, take-take}
 use Rattle.host_record.specs.declared.request.Request.{Request}
 use Rattle.host_record.specs.Request.{request_of}
 use Rattle.host_model.specs.Groups.{answers_for, closings, instance_of, is_closing, is_member, is_owing, same_instance}

@@ -1,5 +1,5 @@
 -- The slips of a client end's acts, and the answers in its log.
-use Rattle.std.proofs.Common.{◌≡◌, ℕ, zero, suc, ◌+◌, ◌<◌, ◌≤◌, Bool, true, false, ◌&&◌, nat_lt, List, [], ◌∷◌, ◌++◌, length, filter_map, map, take, drop, Option, Some, None, refl, sym, ap, ◌∙◌, arith}
+use Rattle.std.proofs.Common.{◌≡◌, ℕ, suc, ◌<◌, true, false, nat_lt, List, [], ◌∷◌, length, take, drop, Option, Some, None, refl, sym, ap, ◌∙◌, arith}
 use Rattle.std.specs.Prelude.{is_some, unwrap_or}
 use Rattle.std.specs.List.{cons_option, slice_get}
 use Rattle.std.proofs.lemmas.Bool.{ltb-true}
@@ -14,7 +14,7 @@ use Rattle.host_record.specs.Response.{response_of}
 use Rattle.host_rings.specs.declared.slip.Slip.{Slip}
 use Rattle.host_session.specs.Acts.{Act, IsAct, IsEventAfter, log_of, slips_of}
 use Rattle.session_law.proofs.Places.{found_at, from_take}
-use Rattle.session_law.proofs.Sending.{more_sent, sent_until}
+use Rattle.session_law.proofs.Sending.{sent_until}
 
 none_is : {B : Type 0} (o : Option B) → o ≡ None → is_some o ≡ false
 none_is None e = refl

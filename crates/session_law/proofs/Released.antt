@@ -1,5 +1,5 @@
 -- A buffer that was released, but not by the client, had been closed by a record.
-use Rattle.std.proofs.Common.{◌≡◌, ◌⊎◌, inl, inr, ℕ, zero, suc, ◌+◌, ◌<◌, ◌≤◌, ◌==◌, Bool, true, false, not, nat_lt, List, [], ◌∷◌, ◌++◌, filter, filter_map, length, take, drop, Option, Some, None, refl, sym, ap, subst, ◌∙◌, arith, eq-eqb}
+use Rattle.std.proofs.Common.{◌≡◌, ◌⊎◌, inl, inr, ℕ, zero, suc, ◌+◌, ◌<◌, ◌≤◌, ◌==◌, Bool, true, false, not, nat_lt, List, [], ◌∷◌, ◌++◌, filter_map, length, take, Option, Some, None, refl, sym, ap, ◌∙◌, arith, eq-eqb}
 use Rattle.std.specs.Prelude.{flat_map, is_some, unwrap_or}
 use Rattle.std.specs.Bool.{then_some}
 use Rattle.std.specs.List.{cons_option, list_any, slice_get}
@@ -24,7 +24,7 @@ use Rattle.host_turn.specs.History.{entries_of}
 use Rattle.host_intake.specs.Entries.{Taking, place_of, request_in}
 use Rattle.host_intake.specs.Takings.{AreTaken, left_by, made, made_for, made_under, under}
 use Rattle.session_law.specs.Gathered.{ReleaseClosed}
-use Rattle.session_law.proofs.Places.{any_here, found_at, from_part, from_take, in_filter, in_take, only_at, with_before_at}
+use Rattle.session_law.proofs.Places.{any_here, found_at, from_part, from_take, in_filter, in_take, with_before_at}
 
 -- ---- events and entries
 

@@ -1,18 +1,14 @@
 -- The rights that came back to a session's cells, and the answers that records' ends made due.
-use Rattle.std.proofs.Common.{◌≡◌, ◌⊎◌, inl, inr, ℕ, zero, suc, ◌+◌, ◌<◌, ◌≤◌, ◌==◌, Bool, true, false, not, ◌&&◌, nat_eq, nat_le, nat_lt, cond, List, [], ◌∷◌, ◌++◌, length, filter, filter_map, map, get_or, reverse, take, Option, Some, None, refl, sym, ap, subst, ◌∙◌, arith, eq-eqb}
-use Rattle.std.specs.Prelude.{find, unwrap_or}
-use Rattle.std.specs.List.{cons_option, list_any, range_with_len, slice_get}
-use Rattle.std.specs.Option.{option_map, option_map_or}
-use Rattle.std.proofs.lemmas.Bool.{eqb-true, le-leb, leb-true, lt-ltb, ltb-false, ltb-true}
+use Rattle.std.proofs.Common.{◌≡◌, ℕ, zero, suc, ◌+◌, ◌<◌, ◌≤◌, ◌==◌, Bool, true, false, not, ◌&&◌, nat_eq, nat_le, nat_lt, List, [], ◌∷◌, length, filter, map, Option, Some, refl, sym, ap, subst, ◌∙◌, arith, eq-eqb}
+use Rattle.std.specs.Prelude.{unwrap_or}
+use Rattle.std.specs.List.{list_any, slice_get}
+use Rattle.std.proofs.lemmas.Bool.{eqb-true, leb-true, ltb-false, ltb-true}
 use Rattle.std.proofs.lemmas.List.{get_or_past, length-map}
-use Rattle.std.proofs.lemmas.Option.{slice_get-map}
 use Rattle.host_record.specs.declared.request.Request.{Request}
-use Rattle.host_record.specs.declared.status.Status.{Status}
 use Rattle.host_record.specs.Command.{is_grouped}
 use Rattle.host_record.specs.Request.{request_of}
 use Rattle.host_model.specs.declared.row.TakenRow.{TakenRow}
-use Rattle.host_model.specs.Answers.{answer_bytes}
-use Rattle.host_model.specs.Groups.{is_closing, is_member, is_owing}
+use Rattle.host_model.specs.Groups.{is_member}
 use Rattle.host_model.specs.Lists.{below, count}
 use Rattle.host_model.specs.Log.{request_at}
 use Rattle.host_model.specs.Taking.{row_at}
@@ -24,23 +20,17 @@ use Rattle.host_group.specs.Ends.{AreThoseAdmitted, HasItsEnd, HaveRows, IsEnd, 
 use Rattle.host_group.specs.Seats.{admitted, back}
 use Rattle.host_group.specs.Views.{total}
 use Rattle.host_group.specs.Views as cell
-use Rattle.host_rings.specs.declared.slip.Slip.{Slip}
-use Rattle.host_intake.specs.declared.entry.RecordEnd.{RecordEnd}
-use Rattle.host_intake.specs.Answers.{group_slip, lone_slip, row_slip}
 use Rattle.host_intake.specs.Entries.{Landing, Taking, is_landing_of, place_of, request_in, requests_of}
 use Rattle.host_intake.specs.Laws.{HaveOutcomes}
 use Rattle.host_intake.specs.Members.{AreInCells, AreLanded, Ending, backs, is_member_at, is_of_member, is_right_out, landing_ending, member_at, members, row_ending}
-use Rattle.host_intake.specs.Told.{is_open, outcome_in, row_in}
-use Rattle.host_intake.proofs.Membering.{member_index}
-use Rattle.host_session.proofs.Counting.{count-map}
+use Rattle.host_intake.specs.Told.{is_open, row_in}
 use Rattle.host_session.proofs.Times.{range_once}
-use Rattle.session_law.proofs.Ends.{IsCloser, IsMemberOf, closer, closes_it, few_ends, from_members_of, in_ends, in_members_of, member_from, member_says, member_there, slip_is, slip_within}
-use Rattle.session_law.proofs.Finding.{find_place, from_filter, from_map, in_map, in_reverse, range_at}
-use Rattle.session_law.proofs.Handing.{answers_of}
-use Rattle.session_law.proofs.Landings.{find_here, landing_taken, landings_once, outcome_is, row_outcome}
+use Rattle.session_law.proofs.Ends.{in_ends, in_members_of, member_says, member_there}
+use Rattle.session_law.proofs.Finding.{from_map, in_map, in_reverse, range_at}
+use Rattle.session_law.proofs.Landings.{find_here, landing_taken, outcome_is, row_outcome}
 use Rattle.session_law.proofs.Lending.{eq_flip}
-use Rattle.session_law.proofs.Places.{any_at, in_filter, some_at, within}
-use Rattle.session_law.proofs.Sums.{bit, count_filter, count_one, count_reverse, count_told, count_within, counted_none, none_counted, somewhere}
+use Rattle.session_law.proofs.Places.{any_at, in_filter, some_at}
+use Rattle.session_law.proofs.Sums.{count_within, counted_none}
 
 -- All records taken have ended, and all rights came back.
 pub record AreAllLanded (ts : List Taking) (ls : List Landing) (seat : CellSeat) : Type 0 where

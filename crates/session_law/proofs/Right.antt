@@ -1,11 +1,10 @@
 -- The answers that records' ends made due: each is that of an owing record of its own, with the fronts of all that it answers.
-use Rattle.std.proofs.Common.{◌≡◌, ◌⊎◌, inl, inr, ℕ, zero, suc, ◌+◌, ◌<◌, ◌≤◌, ◌==◌, Bool, true, false, not, ◌&&◌, ◌||◌, nat_eq, nat_le, nat_lt, cond, IsTrue, List, [], ◌∷◌, ◌++◌, length, filter, filter_map, map, reverse, take, Option, Some, None, refl, sym, ap, subst, ◌∙◌, arith, eq-eqb}
+use Rattle.std.proofs.Common.{◌≡◌, ℕ, suc, ◌<◌, ◌≤◌, ◌==◌, Bool, true, false, not, ◌&&◌, ◌||◌, nat_le, nat_lt, cond, List, [], ◌∷◌, length, map, take, Option, Some, None, refl, sym, ap, subst, ◌∙◌, arith}
 use Rattle.std.specs.Prelude.{find, unwrap_or}
-use Rattle.std.specs.Bool.{then_some}
 use Rattle.std.specs.Str.{bytes_eq}
-use Rattle.std.specs.List.{cons_option, list_all, list_any, slice_get}
-use Rattle.std.specs.Option.{option_map, option_map_or}
-use Rattle.std.proofs.lemmas.Bool.{eqb-true, le-leb, leb-true, lt-ltb, ltb-false, ltb-true}
+use Rattle.std.specs.List.{list_all, slice_get}
+use Rattle.std.specs.Option.{option_map}
+use Rattle.std.proofs.lemmas.Bool.{eqb-true, le-leb, leb-true, lt-ltb, ltb-true}
 use Rattle.std.proofs.lemmas.List.{length-map}
 use Rattle.std.proofs.lemmas.Slice.Eq.{bytes_eq-Decides}
 use Rattle.host_record.specs.declared.request.Request.{Request}
@@ -13,7 +12,7 @@ use Rattle.host_record.specs.Command.{is_last}
 use Rattle.host_model.specs.declared.row.TakenRow.{TakenRow}
 use Rattle.host_model.specs.Answers.{answer_bytes}
 use Rattle.host_model.specs.Groups.{answers_for, closings, instance_of, is_closing, is_member, is_owing, same_instance}
-use Rattle.host_model.specs.Lists.{below, count, implies}
+use Rattle.host_model.specs.Lists.{implies}
 use Rattle.host_model.specs.Log.{request_at}
 use Rattle.host_model.proofs.ListTests.{and-from, both, implied, implies-from}
 use Rattle.host_intake.proofs.Readiness.{all_at}
@@ -21,28 +20,21 @@ use Rattle.host_group.specs.declared.group_end.GroupEnd.{GroupEnd}
 use Rattle.host_group.specs.declared.seat.CellSeat.{CellSeat}
 use Rattle.host_group.specs.declared.view.Member.{Member}
 use Rattle.host_group.specs.declared.view.Row.{Row}
-use Rattle.host_group.specs.Ends.{IsEnd, end_of, ends_of, greatest, instance_rows, members_of, row_of}
-use Rattle.host_group.specs.Seats.{admitted, back, member}
-use Rattle.host_group.specs.Views.{total}
-use Rattle.host_group.specs.Views as cell
+use Rattle.host_group.specs.Ends.{IsEnd, end_of, greatest, instance_rows, members_of, row_of}
+use Rattle.host_group.specs.Seats.{back, member}
 use Rattle.host_rings.specs.declared.slip.Slip.{Slip}
-use Rattle.host_intake.specs.declared.entry.RecordEnd.{RecordEnd}
 use Rattle.host_intake.specs.Answers.{group_slip, lone_slip, row_slip}
 use Rattle.host_intake.specs.Entries.{Landing, Taking, is_landing_of, requests_of, request_in}
-use Rattle.host_intake.specs.Members.{Ending, is_of_member, landing_ending, member_at, members, row_ending}
+use Rattle.host_intake.specs.Members.{Ending, is_of_member, member_at, members}
 use Rattle.host_intake.specs.Told.{row_in}
-use Rattle.host_intake.proofs.Membering.{member_index}
-use Rattle.host_session.proofs.Counting.{count-map}
-use Rattle.session_law.proofs.Ends.{IsCloser, IsMemberOf, closer, closes_it, few_ends, in_members_of, member_from, member_says, member_there, slip_is, slip_within}
-use Rattle.session_law.proofs.Finding.{find_place, from_filter, from_map, in_map}
+use Rattle.session_law.proofs.Ends.{closer, closes_it, in_members_of, member_says, member_there, slip_is, slip_within}
+use Rattle.session_law.proofs.Finding.{in_map}
 use Rattle.session_law.proofs.Gathered.{greatest_at}
 use Rattle.session_law.proofs.Handing.{answers_of}
-use Rattle.session_law.proofs.Landings.{found_landing, landing_taken, landings_once}
-use Rattle.session_law.proofs.Lending.{eq_flip}
+use Rattle.session_law.proofs.Landings.{found_landing, landing_taken}
 use Rattle.session_law.proofs.Lone.{lone_is}
-use Rattle.session_law.proofs.Places.{found_at, in_filter}
-use Rattle.session_law.proofs.Returned.{AreAllLanded, IsToldEnd, back_of, end_told, outcome_at, outcomes, row_is}
-use Rattle.session_law.proofs.Sums.{bit, count_filter, count_one, count_reverse, count_told, count_within, counted_none, none_counted, somewhere}
+use Rattle.session_law.proofs.Places.{found_at}
+use Rattle.session_law.proofs.Returned.{AreAllLanded, back_of, end_told, outcome_at, outcomes, row_is}
 
 -- ---- members of one instance
 

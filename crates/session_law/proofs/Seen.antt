@@ -1,21 +1,17 @@
 -- What a beginning of the buffers' history has of the client's entries.
-use Rattle.std.proofs.Common.{◌≡◌, ℕ, zero, suc, ◌+◌, ◌-◌, ◌<◌, ◌≤◌, ◌==◌, Bool, true, false, cond, List, [], ◌∷◌, ◌++◌, filter, filter_map, length, map, take, drop, Option, Some, None, refl, sym, ap, ◌∙◌, arith, append-nil, append_assoc}
-use Rattle.std.specs.Prelude.{is_some, unwrap_or}
+use Rattle.std.proofs.Common.{◌≡◌, ℕ, zero, suc, ◌+◌, ◌<◌, ◌≤◌, ◌==◌, Bool, true, false, cond, List, [], ◌∷◌, ◌++◌, filter, filter_map, length, map, take, drop, Option, Some, None, refl, sym, ap, ◌∙◌, arith, append-nil, append_assoc}
 use Rattle.std.specs.Bool.{then_some}
 use Rattle.std.specs.List.{cons_option, slice_get}
 use Rattle.std.specs.Option.{option_map, option_map_or}
-use Rattle.std.proofs.lemmas.List.{take-append-drop, take-map, take_at}
-use Rattle.std.proofs.lemmas.List.Elements.{filter_map-append}
+use Rattle.std.proofs.lemmas.List.{take-append-drop, take_at}
 use Rattle.std.proofs.lemmas.Option.{slice_get-map}
-use Rattle.host_memory.specs.Held.{Attachment, attachment_by, attachment_of, has_blocks, is_released, pages_held}
-use Rattle.host_memory.specs.State.{events}
+use Rattle.host_memory.specs.Held.{Attachment, attachment_by, attachment_of, has_blocks, is_released}
 use Rattle.host_model.specs.declared.event.Event.{Event}
 use Rattle.host_model.specs.declared.event.Event.TheVariants.{Attached, NotAttached, Filled, Shown, Sent, Received, Drained, Aborted}
-use Rattle.host_model.specs.declared.memory.MemEntry.{MemEntry}
 use Rattle.host_model.specs.declared.memory.MemEvent.{MemEvent}
 use Rattle.host_model.specs.Buffers.{is_in_buffer}
 use Rattle.host_model.specs.ClientEntries.{entry_after, is_client, told}
-use Rattle.host_model.specs.Lists.{map_after, places, places_from}
+use Rattle.host_model.specs.Lists.{map_after, places_from}
 use Rattle.host_model.specs.Log.{pages_given, pages_of, sent}
 use Rattle.host_model.specs.Verdict.{is_within}
 use Rattle.host_session.specs.Acts.{Act, entry_place, log_of}

@@ -1,5 +1,5 @@
 -- Which act of a client end sent a record, and which one left an entry.
-use Rattle.std.proofs.Common.{◌≡◌, ℕ, zero, suc, ◌+◌, ◌-◌, ◌<◌, ◌≤◌, Bool, true, false, nat_lt, cond, List, [], ◌∷◌, ◌++◌, length, filter, filter_map, map, take, Option, Some, None, refl, sym, ap, subst, ◌∙◌, arith, append_assoc}
+use Rattle.std.proofs.Common.{◌≡◌, ℕ, zero, suc, ◌+◌, ◌-◌, ◌<◌, ◌≤◌, Bool, true, false, nat_lt, cond, List, [], ◌∷◌, ◌++◌, length, filter, filter_map, take, Option, Some, None, refl, sym, ap, ◌∙◌, arith, append_assoc}
 use Rattle.std.specs.Prelude.{is_some, unwrap_or}
 use Rattle.std.specs.List.{cons_option, slice_get}
 use Rattle.std.specs.Option.{option_map}
@@ -10,9 +10,9 @@ use Rattle.host_model.specs.declared.event.Event.{Event}
 use Rattle.host_model.specs.declared.event.Event.TheVariants.{Attached, NotAttached, Filled, Shown, Sent, Received, Drained, Aborted}
 use Rattle.host_model.specs.declared.memory.MemEntry.{MemEntry}
 use Rattle.host_model.specs.declared.memory.MemEvent.{MemEvent}
-use Rattle.host_model.specs.declared.memory.MemEvent.TheVariants.{Attach, Fill, Show}
+use Rattle.host_model.specs.declared.memory.MemEvent.TheVariants.{Attach}
 use Rattle.host_model.specs.ClientEntries.{entry_after, is_client, told}
-use Rattle.host_model.specs.Lists.{map_after, places}
+use Rattle.host_model.specs.Lists.{map_after}
 use Rattle.host_model.specs.Log.{sent, sent_bytes}
 use Rattle.host_rings.specs.declared.envelope.Envelope.{Envelope}
 use Rattle.host_rings.specs.declared.slip.Slip.{Slip}
@@ -20,7 +20,7 @@ use Rattle.host_session.specs.declared.fronts.Fronts.{Fronts}
 use Rattle.host_session.specs.Acts.{Act, IsCourse, IsEventAfter, entry_place, envelopes_of, has_entry, log_of, next_envelope}
 use Rattle.session_law.specs.Fronts.{DoFrontsRise}
 use Rattle.session_law.proofs.Fronts.{rises}
-use Rattle.session_law.proofs.Places.{fewer_told, found_at, only_at, rank, told_here}
+use Rattle.session_law.proofs.Places.{fewer_told, found_at, rank, told_here}
 
 -- how many records were sent in the first acts
 abbrev pub sent_until : List Act → ℕ → ℕ

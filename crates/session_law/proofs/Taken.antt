@@ -1,14 +1,14 @@
 -- The records of a session were taken in order.
-use Rattle.std.proofs.Common.{◌≡◌, ◌⊎◌, inl, inr, ℕ, zero, suc, ◌+◌, ◌<◌, ◌≤◌, Bool, true, false, not, nat_le, cond, IsTrue, List, [], ◌∷◌, ◌++◌, filter, filter_map, length, map, take, Option, Some, None, refl, sym, ap, subst, ◌∙◌, arith, append-nil, eq-eqb}
+use Rattle.std.proofs.Common.{◌≡◌, ◌⊎◌, inl, inr, ℕ, ◌+◌, ◌<◌, ◌≤◌, Bool, true, false, not, cond, IsTrue, List, [], ◌∷◌, ◌++◌, filter, filter_map, length, map, take, Some, refl, sym, ap, subst, ◌∙◌, arith, append-nil}
 use Rattle.std.specs.Prelude.{is_some}
-use Rattle.std.specs.List.{list_any, slice_get}
+use Rattle.std.specs.List.{slice_get}
 use Rattle.std.proofs.lemmas.Bool.{leb-true}
 use Rattle.std.proofs.lemmas.List.{length-map}
 use Rattle.std.proofs.lemmas.List.Elements.{filter-append}
-use Rattle.host_intake.specs.Entries.{Taking, landings, place_of, request_in, requests_of, takings}
+use Rattle.host_intake.specs.Entries.{Taking, landings, request_in, requests_of}
 use Rattle.host_intake.specs.Laws.{Lends}
 use Rattle.host_intake.specs.Takings.{judged_on}
-use Rattle.host_intake.specs.Told.{memory_front_in, row_in, rows_in}
+use Rattle.host_intake.specs.Told.{memory_front_in, row_in}
 use Rattle.host_intake.proofs.Verdicts.{verdicts_are}
 use Rattle.host_memory.specs.Held.{attachment_by, closer_of, is_released}
 use Rattle.host_memory.specs.State.{events}
@@ -21,7 +21,7 @@ use Rattle.host_model.specs.declared.row.TakenRow.{TakenRow}
 use Rattle.host_model.specs.declared.verdict.Verdict.{Verdict}
 use Rattle.host_model.specs.ClientEntries.{is_client, told}
 use Rattle.host_model.specs.Lists.{all_with_before, below}
-use Rattle.host_model.specs.Log.{given, given_before, requests, sent, sent_index}
+use Rattle.host_model.specs.Log.{given_before, requests, sent, sent_index}
 use Rattle.host_model.specs.Releases.{is_release_of}
 use Rattle.host_model.specs.Session.{Session}
 use Rattle.host_model.specs.Taking.{IsTakenInOrder, end_event, is_drain, is_end, runs_out_rightly}
@@ -29,7 +29,6 @@ use Rattle.host_model.specs.Verdict.{verdicts, verdicts_on}
 use Rattle.host_model.proofs.Growth.{verdicts_on-append}
 use Rattle.host_record.specs.declared.finish.Finish.{Finish}
 use Rattle.host_record.specs.declared.finish.Finish.TheVariants.{Drain, Abort}
-use Rattle.host_record.specs.declared.request.Request.{Request}
 use Rattle.host_session.specs.declared.hand.SessionHand.{SessionHand}
 use Rattle.host_session.specs.Client.{ClientState, ends_logged, is_aborted, is_drained}
 use Rattle.host_session.specs.Told.{is_release}

@@ -1,6 +1,6 @@
 -- A fill or show of a session's client was done, or not, as its buffer stood.
-use Rattle.std.proofs.Common.{◌≡◌, ◌⊎◌, inl, inr, ℕ, zero, suc, ◌+◌, ◌-◌, ◌<◌, ◌≤◌, ◌==◌, Bool, true, false, not, ◌&&◌, ◌||◌, nat_lt, cond, IsTrue, List, [], ◌∷◌, ◌++◌, filter, filter_map, get_or, length, map, take, drop, Option, Some, None, refl, sym, ap, subst, ◌∙◌, arith, append_assoc, append-nil}
-use Rattle.std.specs.Prelude.{is_some, unwrap_or}
+use Rattle.std.proofs.Common.{◌≡◌, ◌⊎◌, inl, inr, ℕ, zero, suc, ◌+◌, ◌-◌, ◌<◌, ◌≤◌, Bool, true, false, not, ◌&&◌, ◌||◌, nat_lt, cond, List, [], ◌∷◌, ◌++◌, filter, filter_map, get_or, length, take, drop, Option, Some, None, refl, sym, ap, subst, ◌∙◌, arith, append_assoc, append-nil}
+use Rattle.std.specs.Prelude.{unwrap_or}
 use Rattle.std.specs.List.{list_any, slice_get}
 use Rattle.std.specs.Option.{option_map_or}
 use Rattle.std.proofs.lemmas.Bool.{lt-ltb, ltb-false, ltb-true}
@@ -21,13 +21,11 @@ use Rattle.host_model.specs.Log.{sent, sent_bytes}
 use Rattle.host_model.specs.Releases.{is_release_of}
 use Rattle.host_model.specs.Session.{Session}
 use Rattle.host_model.specs.Taking.{is_end}
-use Rattle.host_model.specs.Verdict.{close_of}
 use Rattle.host_model.proofs.ListTests.{and-from}
-use Rattle.host_rings.specs.declared.envelope.Envelope.{Envelope}
 use Rattle.host_intake.specs.Entries.{Taking}
 use Rattle.host_session.specs.declared.fronts.Fronts.{Fronts}
 use Rattle.host_session.specs.declared.hand.SessionHand.{SessionHand}
-use Rattle.host_session.specs.Acts.{Act, FoundNone, IsAct, IsEventAfter, entry_place, has_entry, log_of}
+use Rattle.host_session.specs.Acts.{Act, IsEventAfter, entry_place, has_entry, log_of}
 use Rattle.host_session.specs.Client.{ClientState}
 use Rattle.session_law.specs.Fronts.{DoFrontsRise}
 use Rattle.session_law.specs.Gathered.{EndsDrained, IsGathered, ReleaseClosed}
@@ -35,10 +33,10 @@ use Rattle.session_law.specs.Using.{FindBlocks, UsedRightly, finds_blocks}
 use Rattle.session_law.proofs.Finding.{from_map}
 use Rattle.session_law.proofs.Gathered.{course, envelope_at, index_is, log_same, taken_whole, ts_of}
 use Rattle.session_law.proofs.Owners.{IsCloseEntry, close_taken, late_release, released_by_taken}
-use Rattle.session_law.proofs.Places.{any_at, any_here, fewer_told, found_at, from_drop, from_take, has_found, none_told, only_at, rank, told_here as told_more, unrank, with_before_at, within}
-use Rattle.session_law.proofs.Released.{entry_at, event_at, events_take, release_is}
+use Rattle.session_law.proofs.Places.{any_at, any_here, fewer_told, found_at, from_drop, from_take, has_found, only_at, rank, told_here as told_more, unrank, with_before_at, within}
+use Rattle.session_law.proofs.Released.{entry_at, events_take, release_is}
 use Rattle.session_law.proofs.Seen.{blocks_held, blocks_told, cut_places, told_first, told_here}
-use Rattle.session_law.proofs.Sending.{IsSentBy, fronts_of, more_sent, one_sent, sent_by, sent_until}
+use Rattle.session_law.proofs.Sending.{fronts_of, more_sent, sent_by, sent_until}
 use Rattle.session_law.proofs.Spots.{told_count}
 use Rattle.session_law.proofs.Taken.{row_count}
 

@@ -1,5 +1,5 @@
 -- A session as it was gathered, once its two ends were put together.
-use Rattle.std.specs.Prelude.{◌≡◌, ℕ, ◌<◌, Bool, true, List, [], ◌∷◌, ◌++◌, take, is_some, slice_get, Some}
+use Rattle.std.specs.Prelude.{◌≡◌, ℕ, ◌<◌, true, List, [], ◌∷◌, ◌++◌, take, is_some, slice_get, Some}
 use Rattle.host_memory.specs.Held.{closer_of}
 use Rattle.host_memory.specs.State.{events}
 use Rattle.host_model.specs.declared.event.Event.{Event}

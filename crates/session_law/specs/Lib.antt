@@ -9,3 +9,4 @@ pub mod Ordering
 pub mod Using
 pub mod Carrying
 pub mod Lawful
+pub mod Draining

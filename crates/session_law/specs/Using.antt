@@ -1,5 +1,5 @@
 -- A fill or show of a session's client was done, or not, as its buffer stood.
-use Rattle.std.specs.Prelude.{ℕ, Bool, true, List, IsTrue}
+use Rattle.std.specs.Prelude.{Bool, true, List, IsTrue}
 use Rattle.host_memory.specs.Held.{has_blocks}
 use Rattle.host_memory.specs.State.{events}
 use Rattle.host_model.specs.declared.memory.MemEntry.{MemEntry}

@@ -1,6 +1,7 @@
 //! Laws over the definitions, each the contract of a function that does nothing.
 ghost use Rattle.session_law.specs.Answering.{DueAnswers};
 ghost use Rattle.session_law.specs.Buffers.{BuffersTold};
+ghost use Rattle.session_law.specs.Draining.{DrainsComeLast};
 ghost use Rattle.session_law.specs.Fronts.{FrontsRise};
 ghost use Rattle.session_law.specs.Lawful.{SessionsAreLawful};
 ghost use Rattle.session_law.specs.Ordering.{OrderKept};
@@ -40,4 +41,9 @@ pub fn used_rightly()
 /// A session is lawful, where its hands kept what they keep.
 pub fn sessions_are_lawful()
     ensures { SessionsAreLawful }
+{}
+
+/// A drained log ends with its drain, where only answers may follow it.
+pub fn drains_come_last()
+    ensures { DrainsComeLast }
 {}

@@ -4,6 +4,6 @@
 mod laws;
 
 pub use laws::{
-    buffers_told, due_answers, fronts_rise, order_kept, sessions_are_lawful, taken_in_order,
-    used_rightly,
+    buffers_told, drains_come_last, due_answers, fronts_rise, order_kept, sessions_are_lawful,
+    taken_in_order, used_rightly,
 };
