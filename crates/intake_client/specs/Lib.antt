@@ -1,0 +1,4 @@
+pub mod Benched
+pub mod Flights
+pub mod Opened
+pub mod Takes
