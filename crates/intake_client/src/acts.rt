@@ -54,14 +54,15 @@ pub fn play<R: Wait>(rt: &R, bench: &mut Bench, acts: &[Act]) -> Option<usize> {
     None
 }
 
-/// The same in a session that has just begun, with one buffer of so many pages. At the end it tells how many rows the session has, if it was closed.
+/// The same in a session that has just begun, with one buffer of so many pages, given before record `from`. At the end it tells how many rows the session has, if it was closed.
 pub fn play_anew<R: Wait>(
     rt: &R,
     alloc: Global,
     pages: u32,
+    from: u32,
     acts: &[Act],
 ) -> Result<(Option<usize>, Option<u64>), Oom> {
-    let mut bench = Bench::new(rt, alloc, PART, pages)?;
+    let mut bench = Bench::new(rt, alloc, PART, pages, from)?;
     let other = play(rt, &mut bench, acts);
     match bench.into_rows() {
         Some(rows) => Ok((other, Some(rows.len()))),

@@ -24,8 +24,14 @@ use std::sync::Wait;
 pub(crate) const RECORDS: u32 = 128;
 
 impl Bench {
-    /// A session that has just begun, with one buffer of so many pages. It has `Oom` for an answer only for want of memory, or of frames.
-    pub fn new<R: Wait>(rt: &R, alloc: Global, part: Range, pages: u32) -> Result<Bench, Oom> {
+    /// A session that has just begun, with one buffer of so many pages, which was given before record `from` was sent. It has `Oom` for an answer only for want of memory, or of frames.
+    pub fn new<R: Wait>(
+        rt: &R,
+        alloc: Global,
+        part: Range,
+        pages: u32,
+        from: u32,
+    ) -> Result<Bench, Oom> {
         let Some(size) = BlockSize::new(512) else {
             return Err(Oom);
         };
@@ -34,7 +40,7 @@ impl Bench {
         let claimed = claim(alloc, &pool, &mut seat, pages)?;
         let (memory, resting, mut client, hand) = open_memory(alloc, size, &pool)?;
         let (sender, cells, intake) = open_intake(alloc, part, size, resting)?;
-        let front = attach(rt, &memory, &mut client, claimed);
+        let front = attach(rt, &memory, &mut client, claimed, from);
         let bench = Bench {
             memory,
             hand,
@@ -111,18 +117,24 @@ fn open_intake(
 }
 
 // The client attaches its buffer, and tells how long the buffers' history is then.
-fn attach<R: Wait>(rt: &R, book: &Book<Memory>, seat: &mut BookSeat<Memory>, pages: Pages) -> u64
+fn attach<R: Wait>(
+    rt: &R,
+    book: &Book<Memory>,
+    seat: &mut BookSeat<Memory>,
+    pages: Pages,
+    from: u32,
+) -> u64
     requires { (size : ℕ) × (pool : TableId × ℕ) × AreBlank size pool pages × IsSeatFor (book_id book.now) (plan_for size pool) 1 seat.old }
 {
     let mut memory = book.enter(rt, seat);
-    attach_first(&mut memory, pages);
+    attach_first(&mut memory, pages, from);
     let front = memory.length();
     book.leave(seat, memory);
     front
 }
 
 // Attaches a buffer, if it has pages and is the first that happens to the memory.
-fn attach_first(memory: &mut Memory, pages: Pages) -> bool
+fn attach_first(memory: &mut Memory, pages: Pages, from: u32) -> bool
     requires { (size : ℕ) × (pool : TableId × ℕ) × AreBlank size pool pages × (memory.old.plan ≡ plan_for size pool) }
     ensures adds { Adds (λ e. e.hand) 1 memory.old.entries memory.new.entries }
     ensures plan { memory.new.plan ≡ memory.old.plan }
@@ -130,6 +142,6 @@ fn attach_first(memory: &mut Memory, pages: Pages) -> bool
     if memory.length() > 0 || pages.is_empty() {
         return false;
     }
-    memory.attach(pages, 0);
+    memory.attach(pages, from);
     true
 }

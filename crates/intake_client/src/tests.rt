@@ -44,7 +44,7 @@ fn first_error_of_a_group(rt: HostRuntime) -> Result<(), Fail> {
         Receive(group(-14, 3, 3, 3)),
         Receive(None),
     ];
-    assert_eq!(rt; play_anew(&rt, rt.alloc(), 1, &acts), Ok((None, None)));
+    assert_eq!(rt; play_anew(&rt, rt.alloc(), 1, 0, &acts), Ok((None, None)));
     Ok(())
 }
 
@@ -68,7 +68,25 @@ fn number_used_again(rt: HostRuntime) -> Result<(), Fail> {
         Receive(lone(0, 3)),
         Receive(None),
     ];
-    assert_eq!(rt; play_anew(&rt, rt.alloc(), 0, &acts), Ok((None, None)));
+    assert_eq!(rt; play_anew(&rt, rt.alloc(), 0, 0, &acts), Ok((None, None)));
+    Ok(())
+}
+
+// A buffer stands for no record that was sent before it was given.
+#[test]
+fn id_not_yet_given(rt: HostRuntime) -> Result<(), Fail> {
+    let acts = [
+        Send(read(1, 1, 0, 0, 1)),
+        Send(close(2, 1)),
+        Send(read(3, 1, 0, 0, 1)),
+        Send(read(4, 2, 0, 0, 1)),
+        CarryOut(Taken(Status::NotFound)),
+        CarryOut(Taken(Status::NotFound)),
+        CarryOut(Taken(Status::Ok)),
+        CarryOut(Taken(Status::NotFound)),
+        CarryOut(NoRecord),
+    ];
+    assert_eq!(rt; play_anew(&rt, rt.alloc(), 1, 2, &acts), Ok((None, None)));
     Ok(())
 }
 
@@ -92,7 +110,7 @@ fn close_with_pins(rt: HostRuntime) -> Result<(), Fail> {
         Receive(lone(0, 1)),
         Receive(group(0, 2, 5, 1)),
     ];
-    assert_eq!(rt; play_anew(&rt, rt.alloc(), 1, &acts), Ok((None, None)));
+    assert_eq!(rt; play_anew(&rt, rt.alloc(), 1, 0, &acts), Ok((None, None)));
     Ok(())
 }
 
@@ -120,12 +138,12 @@ fn abort_drops_what_is_held_and_kept(rt: HostRuntime) -> Result<(), Fail> {
         Abort(false),
         Start(Finished),
     ];
-    assert_eq!(rt; play_anew(&rt, rt.alloc(), 0, &acts), Ok((None, Some(2))));
+    assert_eq!(rt; play_anew(&rt, rt.alloc(), 0, 0, &acts), Ok((None, Some(2))));
     Ok(())
 }
 
 fn fill_up<R: Wait>(rt: &R, alloc: Global, acts: &[Act]) -> Result<(bool, Option<usize>), Oom> {
-    let mut bench = Bench::new(rt, alloc, PART, 0)?;
+    let mut bench = Bench::new(rt, alloc, PART, 0, 0)?;
     let mut well = true;
     for reqid in 0..66 {
         well = bench.send(rt, &flush(reqid)) && well;

@@ -64,7 +64,7 @@ fn as_status(verdict: &Verdict) -> Status {
 
 // The status with which each ends, in a session with one buffer of two pages.
 fn ends<R: Wait>(rt: &R, alloc: Global, rs: &[Request]) -> Result<Vec<Status>, Oom> {
-    let mut bench = Bench::new(rt, alloc, PART, 2)?;
+    let mut bench = Bench::new(rt, alloc, PART, 2, 0)?;
     let mut found = Vec::new(alloc);
     for r in rs {
         bench.send(rt, r);
