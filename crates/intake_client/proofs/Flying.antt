@@ -1,16 +1,13 @@
 -- A record that flies: as it is taken, as others are taken and end, and as it ends.
-use Rattle.std.proofs.Common.{◌≡◌, ◌≢◌, ◌⊎◌, inl, inr, ℕ, zero, suc, ◌+◌, ◌<◌, ◌==◌, Bool, true, false, not, ◌&&◌, ◌||◌, nat_lt, cond, List, [], ◌∷◌, ◌++◌, length, Option, Some, None, MatchOption, refl, sym, ap, subst, ◌∙◌, arith, eq-eqb}
-use Rattle.std.specs.Prelude.{slice_get, unwrap_or, get_or, is_some}
+use Rattle.std.proofs.Common.{◌≡◌, ◌≢◌, ◌⊎◌, inl, inr, ℕ, zero, suc, ◌<◌, ◌==◌, Bool, true, false, not, ◌&&◌, ◌||◌, List, [], ◌∷◌, ◌++◌, length, Option, Some, None, MatchOption, refl, sym, ap, subst, ◌∙◌, eq-eqb}
+use Rattle.std.specs.Prelude.{slice_get, unwrap_or}
 use Rattle.std.specs.List.{list_any}
 use Rattle.std.specs.Option.{option_map_or}
 use Rattle.std.proofs.lemmas.Bool.{lt-ltb, ne_eqb}
 use Rattle.std.proofs.lemmas.Bool.Decides.{eqb_tells}
 use Rattle.std.proofs.lemmas.Option.{slice_get_within}
 use Rattle.atomic_table.specs.Seated.{TableId}
-use Rattle.host_record.specs.declared.request.Request.{Request}
 use Rattle.host_record.specs.declared.status.Status.{Status}
-use Rattle.host_record.specs.Command.{is_close, opcode}
-use Rattle.host_record.specs.Request.{request_of}
 use Rattle.host_model.specs.declared.verdict.Verdict.{Verdict}
 use Rattle.host_model.specs.declared.verdict.Verdict.TheVariants.{Accepted, Refused}
 use Rattle.host_model.specs.Log.{request_at}
@@ -19,7 +16,6 @@ use Rattle.host_memory.proofs.Pushed.{filter_map_skip, filter_map_add}
 use Rattle.host_group.specs.declared.seat.CellSeat.{CellSeat}
 use Rattle.host_group.specs.Seats.{seat_cells}
 use Rattle.host_rings.specs.declared.envelope.Envelope.{Envelope}
-use Rattle.host_intake.specs.declared.entry.IntakeEntry.{IntakeEntry}
 use Rattle.host_intake.specs.declared.plan.IntakePlan.{IntakePlan}
 use Rattle.host_intake.specs.declared.waiting.Waiting.{Waiting}
 use Rattle.host_intake.specs.Admissions.{entry_for}

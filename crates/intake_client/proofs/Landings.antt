@@ -1,5 +1,5 @@
 -- How a record that flies is settled, answered and landed.
-use Rattle.std.proofs.Common.{◌≡◌, ◌≢◌, ◌⊎◌, inl, inr, ℕ, ◌==◌, Bool, true, false, List, [], ◌∷◌, ◌++◌, Option, Some, None, refl, sym, ap, subst, ◌∙◌}
+use Rattle.std.proofs.Common.{◌≡◌, ◌≢◌, ℕ, Bool, true, false, List, [], ◌∷◌, ◌++◌, Option, Some, None, refl, sym, ap, subst, ◌∙◌}
 use Rattle.std.specs.Prelude.{slice_get, unwrap_or}
 use Rattle.atomic_table.specs.Seated.{TableId}
 use Rattle.host_record.specs.declared.request.Request.{Request}
@@ -12,7 +12,6 @@ use Rattle.host_group.specs.declared.view.Member.{Member}
 use Rattle.host_group.specs.Seats.{IsRightOf, IsUnused, IsUsed, row, seat_cells}
 use Rattle.host_rings.specs.declared.envelope.Envelope.{Envelope}
 use Rattle.host_rings.specs.declared.slip.Slip.{Slip}
-use Rattle.host_intake.specs.declared.entry.IntakeEntry.{IntakeEntry}
 use Rattle.host_intake.specs.declared.entry.IntakeEntry.TheVariants.{Landed}
 use Rattle.host_intake.specs.declared.entry.RecordEnd.{RecordEnd}
 use Rattle.host_intake.specs.Answers.{answer_owed, lone_slip}
@@ -22,7 +21,7 @@ use Rattle.host_intake.specs.Rights.{AreSettled}
 use Rattle.host_intake.specs.State.{IntakeState}
 use Rattle.host_intake.proofs.Membering.{member_index}
 use Rattle.intake_client.specs.declared.flight.Flight.{Flight}
-use Rattle.intake_client.specs.Flights.{CanLand, Flies, HasLanded, IsFlying, IsTakenSo}
+use Rattle.intake_client.specs.Flights.{CanLand, Flies, HasLanded, IsFlying}
 use Rattle.intake_client.proofs.Flying.{ended_more, request_there}
 
 -- the request of a record that flies

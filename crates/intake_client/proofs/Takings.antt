@@ -1,12 +1,11 @@
 -- What taking the next record tells of the records that fly.
-use Rattle.std.proofs.Common.{◌≡◌, ℕ, ◌==◌, Bool, true, false, not, ◌&&◌, List, [], ◌∷◌, ◌++◌, length, Option, refl, sym, ap, subst, ◌∙◌}
+use Rattle.std.proofs.Common.{◌≡◌, ℕ, ◌==◌, false, not, ◌&&◌, Option, ap, ◌∙◌}
 use Rattle.std.specs.Prelude.{is_some}
 use Rattle.host_frames.specs.Seats.{SeenPages}
 use Rattle.host_record.specs.declared.status.Status.{Status}
 use Rattle.host_record.specs.declared.status.Status.TheVariants as status
 use Rattle.host_record.specs.Command.{is_close, opcode}
 use Rattle.host_record.specs.Request.{request_of}
-use Rattle.host_model.specs.Verdict.{is_accepted}
 use Rattle.host_memory.specs.Pins.{pins_on}
 use Rattle.host_group.specs.declared.seat.CellSeat.{CellSeat}
 use Rattle.host_group.specs.Seats.{seat_cells}
@@ -14,7 +13,6 @@ use Rattle.host_rings.specs.declared.envelope.Envelope.{Envelope}
 use Rattle.host_turn.specs.Seats.{seen_by}
 use Rattle.host_intake.specs.declared.admission.Admission.{Admission}
 use Rattle.host_intake.specs.declared.admission.Admission.TheVariants as answer
-use Rattle.host_intake.specs.declared.entry.IntakeEntry.{IntakeEntry}
 use Rattle.host_intake.specs.declared.plan.IntakePlan.{IntakePlan}
 use Rattle.host_intake.specs.Admissions.{IsAdmission}
 use Rattle.host_intake.specs.Entries.{Taking, landings, request_in, takings}

@@ -1,5 +1,5 @@
 -- What contracts see of a bench, and what is true of every one.
-use Rattle.std.specs.Prelude.{◌≡◌, ℕ, length, Option}
+use Rattle.std.specs.Prelude.{◌≡◌, length, Option}
 use Rattle.host_group.specs.Seats.{cells_id, seat_cells}
 use Rattle.host_intake.specs.State.{IntakeState}
 use Rattle.host_turn.specs.Seats.{IsSeatOutside, book_id, number, seat_book}

@@ -1,5 +1,5 @@
 -- Records that were taken and have not ended.
-use Rattle.std.specs.Prelude.{◌≡◌, ◌≢◌, ℕ, MatchOption, ◌∷◌, ◌++◌, [], Bool, true, false, ◌==◌, ◌||◌, List, length, slice_get, Option, Some}
+use Rattle.std.specs.Prelude.{◌≡◌, ◌≢◌, ℕ, MatchOption, ◌∷◌, ◌++◌, [], Bool, true, false, ◌==◌, ◌||◌, List, slice_get, Option, Some}
 use Rattle.std.specs.List.{list_any}
 use Rattle.atomic_table.specs.Seated.{TableId}
 use Rattle.host_group.specs.declared.seat.CellSeat.{CellSeat}

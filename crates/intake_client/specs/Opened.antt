@@ -1,5 +1,5 @@
 -- What a bench is made of.
-use Rattle.std.specs.Prelude.{◌≡◌, ℕ, List, [], length, replicate, Some}
+use Rattle.std.specs.Prelude.{◌≡◌, ℕ, [], length, replicate, Some}
 use Rattle.atomic_table.specs.Seated.{TableId}
 use Rattle.host_frames.specs.Seats.{SeenPages, contents, pages_pool}
 use Rattle.host_memory.specs.declared.limits.MemoryPlan.{MemoryPlan}

@@ -138,7 +138,10 @@ fn abort_drops_what_is_held_and_kept(rt: HostRuntime) -> Result<(), Fail> {
         Abort(false),
         Start(Finished),
     ];
-    assert_eq!(rt; play_anew(&rt, rt.alloc(), 0, 0, &acts), Ok((None, Some(2))));
+    assert_eq!(rt;
+        play_anew(&rt, rt.alloc(), 0, 0, &acts),
+        Ok((None, Some(2)))
+    );
     Ok(())
 }
 

@@ -1,4 +1,4 @@
-use Rattle.std.proofs.Common.{None, subst}
+use Rattle.std.proofs.Common.{subst}
 use Rattle.intake_client.specs.Flights.{CanLand}
 use Rattle.intake_client.proofs.Flying.{can_fly}
 use Rattle.intake_client.proofs.Landings.{lone_owed}
