@@ -1,0 +1,268 @@
+-- What the next record is to the hand that takes it.
+use Rattle.std.proofs.Common.{◌≡◌, ℕ, zero, suc, ◌+◌, ◌-◌, ◌≤◌, ◌<◌, Bool, true, false, not, ◌&&◌, ◌||◌, ◌==◌, nat_le, cond, IsTrue, List, [], ◌∷◌, ◌++◌, length, map, filter_map, take, drop, Option, Some, None, refl, sym, ap, ap₂, subst, ◌∙◌, arith, lit<, eq-eqb}
+use Rattle.std.specs.Prelude.{IsSome, MatchOption, is_none, is_some}
+use Rattle.std.specs.Option.{ForSome}
+use Rattle.std.specs.List.{list_any}
+use Rattle.std.proofs.lemmas.Bool.{leb-true}
+use Rattle.std.proofs.lemmas.List.{map-append, take-append-drop}
+use Rattle.std.proofs.lemmas.List.Folds.{list_any-append}
+use Rattle.atomic_table.specs.Seated.{TableId}
+use Rattle.host_block.specs.declared.range.Range.{Range}
+use Rattle.host_frames.specs.Seats.{SeenPages, contents, pages_pool}
+use Rattle.host_group.specs.declared.seat.CellSeat.{CellSeat}
+use Rattle.host_group.specs.Seats.{seat_cells}
+use Rattle.host_intake.specs.declared.entry.IntakeEntry.{IntakeEntry}
+use Rattle.host_intake.specs.declared.entry.Phase.{Phase}
+use Rattle.host_intake.specs.declared.entry.Phase.TheVariants.{Running, Draining, Aborted, Closed}
+use Rattle.host_intake.specs.Admissions.{AreBlocksSeen, ArePagesClosed, HasPages, HasTaken, IsAdmitted, IsRefused, entry_for}
+use Rattle.host_intake.specs.Entries.{Taking, place_of, request_in, takings}
+use Rattle.host_intake.specs.Ledgers.{is_shut}
+use Rattle.host_intake.specs.Rights.{HasRight}
+use Rattle.host_intake.specs.State.{IntakeState, MemorySeat}
+use Rattle.host_intake.specs.Takings.{IsJudged, judged_on, left_by, made, made_for, made_under, under}
+use Rattle.host_intake.specs.Told.{is_over, phase_in, turn_of, turns}
+use Rattle.host_intake.proofs.Accepting.{all_passed}
+use Rattle.host_intake.proofs.Ledgering.{and_left, and_right}
+use Rattle.host_memory.specs.declared.limits.MemoryPlan.{MemoryPlan}
+use Rattle.host_memory.specs.Held.{is_block_of, page_count_of, standing_in}
+use Rattle.host_memory.specs.PagesHeld.{ArePagesOf}
+use Rattle.host_memory.specs.Pins.{is_done_for, is_pin_by}
+use Rattle.host_memory.specs.State.{events}
+use Rattle.host_memory.proofs.Pushed.{filter_map_skip}
+use Rattle.host_model.specs.declared.memory.MemEntry.{MemEntry}
+use Rattle.host_model.specs.declared.memory.MemEvent.{MemEvent}
+use Rattle.host_model.specs.declared.memory.MemEvent.TheVariants.{Pin}
+use Rattle.host_model.specs.declared.verdict.Verdict.{Verdict}
+use Rattle.host_model.specs.declared.verdict.Verdict.TheVariants.{Accepted, Refused}
+use Rattle.host_model.specs.Lists.{last}
+use Rattle.host_model.specs.Verdict.{checks, is_accepted, is_within, judged}
+use Rattle.host_record.specs.declared.opcode.Opcode.{Opcode}
+use Rattle.host_record.specs.declared.opcode.Opcode.TheVariants as opcode
+use Rattle.host_record.specs.declared.request.Request.{Request}
+use Rattle.host_record.specs.declared.status.Status.{Status}
+use Rattle.host_record.specs.declared.status.Status.TheVariants.{InvalidArgs}
+use Rattle.host_record.specs.Command.{is_close, is_transfer, names_blocks, opcode}
+use Rattle.host_record.specs.Request.{request_of}
+use Rattle.host_rings.specs.declared.envelope.Envelope.{Envelope}
+use Rattle.host_rings.specs.AnswerEnds.{SlipSenderState}
+use Rattle.host_turn.specs.History.{entries_of}
+use Rattle.host_turn.specs.Seats.{fixed_part, number, seen_by}
+use Rattle.host_session.specs.declared.spec.SessionSpec.{SessionSpec}
+use Rattle.host_hand.specs.declared.errand.Errand.{Errand}
+use Rattle.host_hand.specs.declared.next.Next.{Next}
+use Rattle.host_hand.specs.declared.next.Next.TheVariants as next
+use Rattle.host_hand.specs.declared.work.Work.{Work}
+use Rattle.host_hand.specs.declared.work.Work.TheVariants as work
+use Rattle.host_hand.specs.Buffers.{IsHeld, IsOfPool}
+use Rattle.host_hand.specs.Errands.{errand_of}
+use Rattle.host_hand.specs.Frames.{is_closer, pages_of}
+use Rattle.host_hand.specs.Jobs.{HasTakenNext, IsJobOf, IsNext}
+use Rattle.host_hand.specs.Visits.{CannotTake, HasNothingToPass}
+use Rattle.host_hand.specs.WorkKinds.{next_for, work_for}
+use Rattle.host_hand.specs.Works.{IsWork, pages_with, verdict_of}
+
+-- ---- phases
+
+pub phase_same : (es : List IntakeEntry) (e : IntakeEntry) → turn_of e ≡ None → phase_in (es ++ e ∷ []) ≡ phase_in es
+phase_same es e is = ap (last Running) (filter_map_skip turn_of es e is)
+
+pub not_shut : (p : Phase) → is_over p ≡ false → is_shut p ≡ false
+not_shut Running e = refl
+not_shut Draining e = refl
+not_shut Aborted e = refl
+not_shut Closed e = e
+
+-- ---- what an accepted record is
+
+pub accepted_opcode : (part : Range) (pages : Option ℕ) (r : Request) → judged part pages r ≡ Accepted → is_none (opcode r) ≡ false
+unfolding judged
+accepted_opcode part pages r e = all_passed (checks part pages r) e 1 (false, InvalidArgs) (lit< tt)
+
+must : (n w : Bool) → n ≡ true → (n && not w) ≡ false → w ≡ true
+must true true a b = refl
+must true false a b = sym b
+must false w a b = absurd (cc a)
+
+accepted_inside : (part : Range) (pages : Option ℕ) (r : Request) → judged part pages r ≡ Accepted → names_blocks (opcode r) ≡ true → r.dev_offset + r.length ≤ part.count
+unfolding judged
+accepted_inside part pages r e names =
+    let f : (names_blocks (opcode r) && not (is_within r.dev_offset r.length part.count)) ≡ false = all_passed (checks part pages r) e 4 (false, InvalidArgs) (lit< tt) in
+    let w : (nat_le r.length part.count && nat_le r.dev_offset (part.count - r.length)) ≡ true = must (names_blocks (opcode r)) (is_within r.dev_offset r.length part.count) names f in
+    let a = leb-true r.length part.count (and_left (nat_le r.length part.count) (nat_le r.dev_offset (part.count - r.length)) w) in
+    let b = leb-true r.dev_offset (part.count - r.length) (and_right (nat_le r.length part.count) (nat_le r.dev_offset (part.count - r.length)) w) in
+    omega arith
+
+-- ---- which records wait, and which bring pages
+
+no_close : (a c p w : Bool) → c ≡ false → w ≡ (a && c && p) → w ≡ false
+no_close true c p w is e = e ∙ ap (λ b. b && p) is
+no_close false c p w is e = e
+
+no_accept : (v : Verdict) (status : Status) (c p w : Bool) → v ≡ Refused status → w ≡ (is_accepted v && c && p) → w ≡ false
+no_accept v status c p w is e = e ∙ ap (λ x. is_accepted x && c && p) is
+
+no_pages : (a c w : Bool) → c ≡ false → (a && c && not w) ≡ false
+no_pages true c w is = ap (λ b. b && not w) is
+no_pages false c w is = refl
+
+refused_pages : (v : Verdict) (status : Status) (c w : Bool) → v ≡ Refused status → (is_accepted v && c && not w) ≡ false
+refused_pages v status c w is = ap (λ x. is_accepted x && c && not w) is
+
+-- a close of which no pages came out waits
+none_waits : (v : Verdict) (c w : Bool) → v ≡ Accepted → c ≡ true → false ≡ (is_accepted v && c && not w) → w ≡ true
+none_waits v c true is close e = refl
+none_waits v c false is close e = absurd (let f : false ≡ true = e ∙ (ap (λ x. is_accepted x && c && true) is ∙ ap (λ x. true && x && true) close) in cc)
+
+some_waits : (v : Verdict) (c w : Bool) → v ≡ Accepted → c ≡ true → true ≡ (is_accepted v && c && not w) → w ≡ false
+some_waits v c false is close e = refl
+some_waits v c true is close e = absurd (let f : true ≡ false = e ∙ (ap (λ x. is_accepted x && c && false) is ∙ ap (λ x. true && x && false) close) in cc)
+
+-- ---- what taking it left
+
+events_under : (n : ℕ) (ms : List MemEvent) → events (under n ms) ≡ ms
+events_under n [] = refl
+events_under n (m ∷ ms) = ap (λ l. m ∷ l) (events_under n ms)
+
+or_true : (a : Bool) → (a || true) ≡ true
+or_true true = refl
+or_true false = refl
+
+any_left : (p : MemEvent → Bool) (s m num : ℕ) (h : List MemEntry) (ms : List MemEvent) → take m (drop s h) ≡ under num ms → list_any p ms ≡ true → list_any p (events h) ≡ true
+any_left p s m num h ms is found =
+    ap (λ l. list_any p (events l)) (sym (take-append-drop s h) ∙ ap (λ l. take s h ++ l) (sym (take-append-drop m (drop s h))))
+    ∙ (ap (list_any p) (map-append (λ (e : MemEntry). e.what) (take s h) (take m (drop s h) ++ drop m (drop s h)) ∙ ap (λ l. events (take s h) ++ l) (map-append (λ (e : MemEntry). e.what) (take m (drop s h)) (drop m (drop s h))))
+    ∙ (list_any-append p (events (take s h)) (events (take m (drop s h)) ++ events (drop m (drop s h)))
+    ∙ (ap (λ b. list_any p (events (take s h)) || b) (list_any-append p (events (take m (drop s h))) (events (drop m (drop s h)))
+    ∙ ap (λ b. b || list_any p (events (drop m (drop s h)))) (ap (λ l. list_any p (events l)) is ∙ (ap (list_any p) (events_under num ms) ∙ found)))
+    ∙ or_true (list_any p (events (take s h))))))
+
+pin_is : (hand i v : ℕ) → list_any (is_pin_by hand i v) (Pin i v hand ∷ []) ≡ true
+pin_is hand i v = ap (λ b. b || false) (ap₂ (λ a b. a && b) (ap₂ (λ a b. a && b) (eq-eqb hand hand refl) (eq-eqb i i refl)) (eq-eqb v v refl))
+
+made_as : (t : Taking) (o : Option Opcode) → opcode (request_in t) ≡ o → t.verdict ≡ Accepted → made t ≡ made_for o (place_of t) (request_in t).vmoid t.hand t.waits
+made_as t o is v = ap₂ (λ a b. made_under a (made_for b (place_of t) (request_in t).vmoid t.hand t.waits)) v is
+
+-- ---- the job
+
+pub taken_next : (hand : ℕ) (spec : SessionSpec) (old new : IntakeState) (seat : MemorySeat) (e : Envelope) (t : Taking) → t.hand ≡ hand → old.part ≡ spec.part → HasTaken old new seat e t → HasTakenNext hand spec.part old.entries new.entries (seen_by seat) t
+taken_next hand spec old new seat e t by part k = record {
+  by = by;
+  index = ap (λ (x : Envelope). x.index) k.envelope ∙ k.index;
+  entries = k.entries;
+  admissions = number old.memory_seat;
+  judged = subst (λ p. IsJudged p (number old.memory_seat) (seen_by seat) t) part k.judged;
+}
+
+pub refused_next : (hand : ℕ) (cells : TableId) (spec : SessionSpec) (pool : TableId × ℕ) (old new : IntakeState) (seat : MemorySeat) (e : Envelope) (status : Status) (right : Option CellSeat) (s : SlipSenderState) (t : Taking)
+    → seat_cells old.cell_seat ≡ cells → old.part ≡ spec.part → IsRefused hand old new seat e status right t
+    → IsNext cells spec pool hand old.entries new.entries (seen_by seat) s s (next.Took (record { envelope = e; work = work.Refuse status; right = right }))
+refused_next hand cells spec pool old new seat e status right s t same part k =
+    let waits = no_accept t.verdict status (is_close (opcode (request_in t))) _ t.waits k.verdict k.taken.judged.waits in (
+      refl,
+      (
+        t,
+        taken_next hand spec old new seat e t k.by part k.taken,
+        record {
+          envelope = k.taken.envelope;
+          verdict = k.verdict;
+          waits = waits;
+          right = subst (λ c. HasRight c (takings new.entries) t right) same (k.right_out.0 waits).1;
+          work_is = record { is_for = tt; in_part = tt; holds = tt; with_pages = tt };
+          pages = ap (λ b. cond b (pages_of (seen_by seat) t) 0) (sym (refused_pages t.verdict status (is_close (opcode (request_in t))) t.waits k.verdict));
+        },
+      ),
+    )
+
+pub idle_next : (cells : TableId) (spec : SessionSpec) (pool : TableId × ℕ) (n : ℕ) (old new : List IntakeEntry) (h : List MemEntry) (s : SlipSenderState) → new ≡ old → is_shut (phase_in old) ≡ false → HasNothingToPass old s → CannotTake old → IsNext cells spec pool n old new h s s next.Idle
+idle_next cells spec pool n old new h s same shut pass take =
+    (refl, same, ap (λ es. is_shut (phase_in es)) same ∙ shut, subst (λ es. HasNothingToPass es s) (sym same) pass, subst (λ es. CannotTake es) (sym same) take)
+
+module _ (hand : ℕ) (cells : TableId) (spec : SessionSpec) (pool : TableId × ℕ) (old new : IntakeState) (seat : MemorySeat) (e : Envelope) (right : Option CellSeat) (s : SlipSenderState) (t : Taking) (all : Option SeenPages)
+    (same : seat_cells old.cell_seat ≡ cells) (part : old.part ≡ spec.part) (shut : is_shut (phase_in old.entries) ≡ false) (of_pool : IsOfPool pool seat)
+    (undone : list_any (is_done_for (place_of t)) (events (entries_of (λ x. x.hand) t.hand (seen_by seat))) ≡ false) (k : IsAdmitted hand old new seat e all right t) where
+  taken : HasTakenNext hand spec.part old.entries new.entries (seen_by seat) t
+  taken = taken_next hand spec old new seat e t k.by part k.taken
+
+  accepted : judged spec.part (standing_in (request_in t).vmoid (place_of t) (judged_on (seen_by seat) t)) (request_in t) ≡ Accepted
+  accepted = sym taken.judged.verdict ∙ k.verdict
+
+  -- it has this work
+  job : (w : Work) → verdict_of w ≡ Accepted → t.waits ≡ false → IsWork (errand_of t.hand spec t.envelope) pool (seen_by seat) w → pages_with w ≡ cond (is_closer t) (pages_of (seen_by seat) t) 0
+      → IsNext cells spec pool hand old.entries new.entries (seen_by seat) s s (next.Took (record { envelope = e; work = w; right = right }))
+  job w v waits is pages = (
+    refl,
+    (
+      t,
+      taken,
+      record {
+        envelope = k.taken.envelope;
+        verdict = k.verdict ∙ sym v;
+        waits = waits;
+        right = subst (λ c. HasRight c (takings new.entries) t right) same (k.right_out.0 waits).1;
+        work_is = is;
+        pages = pages;
+      },
+    ),
+  )
+
+  no_waits : is_close (opcode (request_in t)) ≡ false → t.waits ≡ false
+  no_waits no_close_here = no_close (is_accepted t.verdict) (is_close (opcode (request_in t))) _ t.waits no_close_here k.taken.judged.waits
+
+  without : is_close (opcode (request_in t)) ≡ false → 0 ≡ cond (is_closer t) (pages_of (seen_by seat) t) 0
+  without no_close_here = ap (λ b. cond b (pages_of (seen_by seat) t) 0) (sym (no_pages (is_accepted t.verdict) (is_close (opcode (request_in t))) t.waits no_close_here))
+
+  -- it holds its buffer
+  held : made t ≡ Pin (place_of t) (request_in t).vmoid t.hand ∷ [] → is_transfer (opcode (request_in t)) ≡ true → IsHeld (errand_of t.hand spec t.envelope) (seen_by seat)
+  held pin transfer = record {
+    pinned = any_left (is_pin_by t.hand (place_of t) (request_in t).vmoid) t.seen (length (made t)) taken.admissions (seen_by seat) (Pin (place_of t) (request_in t).vmoid t.hand ∷ []) (taken.judged.left ∙ ap (under taken.admissions) pin) (pin_is t.hand (place_of t) (request_in t).vmoid);
+    undone = undone;
+    blocks = k.blocks transfer;
+  }
+
+  -- the pages of a buffer that it closed
+  closed_pages : (p : SeenPages) → ArePagesClosed seat t p → (pages_pool p ≡ pool) × (length (contents p) ≡ pages_of (seen_by seat) t)
+  closed_pages p = at (fixed_part seat) refl
+    where
+      at : (o : Option MemoryPlan) → fixed_part seat ≡ o → MatchOption o ⊥ (λ plan. ArePagesOf plan.pool plan.limits.size (judged_on (seen_by seat) t) (request_in t).vmoid (page_count_of (request_in t).vmoid (judged_on (seen_by seat) t)) p)
+          → (pages_pool p ≡ pool) × (length (contents p) ≡ pages_of (seen_by seat) t)
+      at None is m = absurd m
+      at (Some plan) is m = (m.of_pool ∙ of_pool plan is, m.number)
+
+  kinds : (o : Option Opcode) (pages : Option SeenPages) → opcode (request_in t) ≡ o → HasPages seat t pages → IsNext cells spec pool hand old.entries new.entries (seen_by seat) s s (next_for e right (work_for o pages))
+  kinds None pages is m = absurd (let f : true ≡ false = sym (ap is_none is) ∙ accepted_opcode spec.part _ (request_in t) accepted in cc)
+  kinds (Some opcode.Read) pages is m = job work.Read refl (no_waits (ap is_close is)) (record {
+    is_for = is;
+    in_part = accepted_inside spec.part _ (request_in t) accepted (ap names_blocks is);
+    holds = held (made_as t (Some opcode.Read) is k.verdict) (ap is_transfer is);
+    with_pages = tt;
+  }) (without (ap is_close is))
+  kinds (Some opcode.Write) pages is m = job work.Write refl (no_waits (ap is_close is)) (record {
+    is_for = is;
+    in_part = accepted_inside spec.part _ (request_in t) accepted (ap names_blocks is);
+    holds = held (made_as t (Some opcode.Write) is k.verdict) (ap is_transfer is);
+    with_pages = tt;
+  }) (without (ap is_close is))
+  kinds (Some opcode.Trim) pages is m = job work.Trim refl (no_waits (ap is_close is)) (record {
+    is_for = is;
+    in_part = accepted_inside spec.part _ (request_in t) accepted (ap names_blocks is);
+    holds = tt;
+    with_pages = tt;
+  }) (without (ap is_close is))
+  kinds (Some opcode.Flush) pages is m = job work.Flush refl (no_waits (ap is_close is)) (record { is_for = is; in_part = tt; holds = tt; with_pages = tt }) (without (ap is_close is))
+  kinds (Some opcode.Close) None is m =
+      (refl, ap is_shut (ap phase_in k.taken.entries ∙ phase_same old.entries (entry_for t) refl) ∙ shut, (t, taken, none_waits t.verdict (is_close (opcode (request_in t))) t.waits k.verdict (ap is_close is) m.0))
+  kinds (Some opcode.Close) (Some p) is m =
+      let q = closed_pages p m.1 in
+      job (work.Close p) refl (some_waits t.verdict (is_close (opcode (request_in t))) t.waits k.verdict (ap is_close is) m.0) (record { is_for = is; in_part = tt; holds = tt; with_pages = q.0 })
+      (q.1 ∙ ap (λ b. cond b (pages_of (seen_by seat) t) 0) m.0)
+
+  pub admitted_next : (o : Option Opcode) → opcode (request_of e.bytes) ≡ o → IsNext cells spec pool hand old.entries new.entries (seen_by seat) s s (next_for e right (work_for o all))
+  admitted_next o is = kinds o all (ap (λ (x : Envelope). opcode (request_of x.bytes)) k.taken.envelope ∙ is) k.pages_out
+
+-- an accepted record asks for something
+pub accepted_some : (part : Range) (num : ℕ) (h : List MemEntry) (t : Taking) (e : Envelope) → IsJudged part num h t → t.verdict ≡ Accepted → t.envelope ≡ e → IsSome (opcode (request_of e.bytes))
+accepted_some part num h t e j v is = subst (λ (x : Envelope). IsSome (opcode (request_of x.bytes))) is (some (opcode (request_in t)) (accepted_opcode part _ (request_in t) (sym j.verdict ∙ v)))
+  where
+    some : (o : Option Opcode) → is_none o ≡ false → IsSome o
+    some None e = absurd (cc e)
+    some (Some x) e = refl

@@ -1,0 +1,17 @@
+pub mod Growth
+pub mod Moves
+pub mod Records
+pub mod Slips
+pub mod Frames
+pub mod Kept
+pub mod Posts
+pub mod Errands
+pub mod Runs
+pub mod Buffers
+pub mod Blocks
+pub mod WorkKinds
+pub mod Works
+pub mod Ends
+pub mod Visits
+pub mod Jobs
+pub mod Serves

@@ -1,0 +1,58 @@
+// A record that a hand is to carry out.
+ghost use Rattle.std.specs.Prelude.{◌≡◌, ◌+◌, ◌<◌, ◌^◌, IfSome};
+ghost use Rattle.host_hand.specs.Errands.{errand_of};
+
+use host_block::{BlockSize, Range};
+use host_record::Request;
+use host_rings::Envelope;
+use host_session::SessionSpec;
+
+/// A record that a hand is to carry out: for which session, on which partition, and past which fronts.
+#[derive(Clone, Copy)]
+pub(crate) struct Errand {
+    pub(crate) hand: u32,
+    pub(crate) session: u32,
+    pub(crate) part: Range,
+    pub(crate) size: BlockSize,
+    pub(crate) index: u32,
+    pub(crate) device_front: u64,
+    pub(crate) memory_front: u64,
+    pub(crate) request: Request,
+}
+
+impl Errand {
+    pub(crate) fn of(hand: u32, spec: &SessionSpec, envelope: &Envelope) -> Errand
+        ensures { result ≡ errand_of hand spec.now envelope.now }
+    {
+        Errand {
+            hand,
+            session: spec.number,
+            part: spec.part,
+            size: spec.size,
+            index: envelope.index,
+            device_front: envelope.device_front,
+            memory_front: envelope.memory_front,
+            request: Request::from_bytes(&envelope.bytes),
+        }
+    }
+
+    // Its block k on the device.
+    pub(crate) fn block(&self, k: u32) -> u64
+        requires { self.now.part.first + self.now.request.dev_offset + k < 2 ^ 64 }
+        ensures { result ≡ self.now.part.first + self.now.request.dev_offset + k }
+    {
+        self.part.first + self.request.dev_offset + k as u64
+    }
+
+    // The page of its buffer for step k. Pages have numbers of 32 bits.
+    pub(crate) fn page(&self, k: u32) -> Option<u32>
+        ensures { IfSome result (λ page. page ≡ self.now.request.vmo_offset + k) }
+    {
+        let page = self.request.vmo_offset.checked_add(k as u64)?;
+        if page <= u32::MAX as u64 {
+            Some(page as u32)
+        } else {
+            None
+        }
+    }
+}

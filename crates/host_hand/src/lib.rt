@@ -1,0 +1,19 @@
+//! What one hand does at one session: it hands on a kept answer, or takes a record, carries it out, settles it and lands it.
+#![tactic(auto)]
+
+mod block;
+mod carry;
+mod close;
+mod end;
+mod errand;
+mod hold;
+mod job;
+mod next;
+mod run;
+mod serving;
+mod step;
+mod visit;
+mod work;
+
+pub use serving::serve;
+pub use visit::Visit;
