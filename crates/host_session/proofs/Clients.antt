@@ -76,7 +76,7 @@ module _ (s : ClientState) (k : IsClient s) where
         log = log_sent s.plan.spec s.log k.log e bytes refl refl refl refl refl few (one_more_fits s.plan.spec.events (count (λ x. not (is_end x)) s.log) room);
         told = told_quiet s.plan.hands s.plan.spec.size s.log h e refl refl refl k.told;
         seen = k.seen;
-        ended = ended_quiet s.plan.hands s.finish s.closed s.log (seen_by s.intake_seat) h e refl (ap is_aborted running) (λ c. absurd (cc (sym c ∙ k.ended.first running))) k.ended;
+        ended = ended_quiet s.plan.hands s.finish s.closed s.log (seen_by s.intake_seat) h e refl (ap is_aborted running) (λ c. absurd (cc (sym c ∙ k.ended.first running))) (λ _ c. absurd (cc (sym c ∙ k.ended.first running))) k.ended;
         acts = k.acts ++ a ∷ [];
         course = course_sent s.log s.sender.pushed s.taker.taken h s.fronts k.acts k.course bytes s.fronts (within_refl s.fronts);
         late = none_late s.plan.hands (seen_by s.intake_seat) h (k.acts ++ a ∷ []) (k.ended.running (k.ended.first running));
@@ -98,7 +98,7 @@ module _ (s : ClientState) (k : IsClient s) where
         log = log_quiet s.plan.spec s.log k.log e refl refl refl refl refl (one_more_fits s.plan.spec.events (count (λ x. not (is_end x)) s.log) room);
         told = told_quiet s.plan.hands s.plan.spec.size s.log h e refl refl refl k.told;
         seen = omega (arith, k.seen);
-        ended = ended_quiet s.plan.hands s.finish s.closed s.log (seen_by s.intake_seat) h e refl not_aborted (λ c. over_received s.finish s.log (seen_by s.intake_seat) h slip.bytes (k.ended.over c)) k.ended;
+        ended = ended_quiet s.plan.hands s.finish s.closed s.log (seen_by s.intake_seat) h e refl not_aborted (λ c. over_received s.finish s.log (seen_by s.intake_seat) h slip.bytes (k.ended.over c)) (λ _ _. refl) k.ended;
         acts = k.acts ++ a ∷ [];
         course = course_received s.log s.sender.pushed s.taker.taken h s.fronts k.acts k.course thrown slip f answers (record { device = omega arith; memory = omega arith }) (record { device = omega arith; memory = omega arith });
         late = late_more s.plan.hands s.finish s.closed s.log (seen_by s.intake_seat) h k.acts (a ∷ []) not_aborted k.course.events_are k.ended k.late;
@@ -134,7 +134,7 @@ module _ (s : ClientState) (k : IsClient s) where
         log = log_quiet s.plan.spec s.log k.log e refl refl refl refl rightly (one_more_fits s.plan.spec.events (count (λ x. not (is_end x)) s.log) room);
         told = told_quiet s.plan.hands s.plan.spec.size s.log h e refl refl refl k.told;
         seen = k.seen;
-        ended = ended_quiet s.plan.hands s.finish s.closed s.log (seen_by s.intake_seat) h e refl (ap is_aborted running) (λ c. absurd (cc (sym c ∙ k.ended.first running))) k.ended;
+        ended = ended_quiet s.plan.hands s.finish s.closed s.log (seen_by s.intake_seat) h e refl (ap is_aborted running) (λ c. absurd (cc (sym c ∙ k.ended.first running))) (λ _ c. absurd (cc (sym c ∙ k.ended.first running))) k.ended;
         acts = k.acts ++ a ∷ [];
         course = course_quiet s.log s.sender.pushed s.taker.taken h s.fronts k.acts k.course a refl refl refl refl refl (record { envelope = refl; slip = refl; fronts = k.course.fronts });
         late = none_late s.plan.hands (seen_by s.intake_seat) h (k.acts ++ a ∷ []) (k.ended.running (k.ended.first running));

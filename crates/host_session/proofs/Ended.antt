@@ -36,6 +36,7 @@ use Rattle.host_session.specs.Endings.{IsOver, owed_count}
 use Rattle.host_session.specs.Kept.{HasRings, IsClient}
 use Rattle.host_session.specs.Plan.{intake_plan, memory_plan}
 use Rattle.host_session.specs.Told.{IsTold, is_release}
+use Rattle.host_session.proofs.Blocks.{turned_own}
 use Rattle.host_session.proofs.Course.{course_quiet, course_seen, no_client, within_refl}
 use Rattle.host_session.proofs.Finishing.{log_ended}
 use Rattle.host_session.proofs.Keeping.{none_late, told_quiet}
@@ -152,7 +153,7 @@ module _ (s : ClientState) (k : IsClient s) (running : s.closed ≡ false) (i : 
         log = k.log;
         told = subst (λ l. IsTold c s.plan.spec.size s.log l) whole (told_seen c s.plan.spec.size s.log h rest none (ap (entries_of (λ x. x.hand) c) whole ∙ own) k.told);
         seen = t.known_is.1;
-        ended = record { first = k.ended.first; turned = t.turned ∙ k.ended.turned; logged = k.ended.logged; last = k.ended.last; running = λ _. unreleased; over = λ b. absurd (cc (sym b ∙ running)) };
+        ended = record { first = k.ended.first; turned = t.turned ∙ k.ended.turned; logged = k.ended.logged; last = k.ended.last; drained = λ _ b. absurd (cc (sym b ∙ running)); own = turned_own c s.intake_seat i t.intake_found [] t.turn k.intake_seat.number_is refl k.ended.own; running = λ _. unreleased; over = λ b. absurd (cc (sym b ∙ running)) };
         acts = k.acts;
         course = subst (λ l. IsCourse s.log s.sender.pushed s.taker.taken l f k.acts) whole (course_seen s.log s.sender.pushed s.taker.taken h s.fronts k.acts k.course rest f none (record { device = omega arith; memory = t.known_is.0 }));
         late = none_late c (seen_by i) (seen_by m) k.acts unreleased;
@@ -220,6 +221,8 @@ module _ (s : ClientState) (k : IsClient s) (running : s.closed ≡ false) (i : 
         turned = t.turned ∙ (ap (λ l. l ++ phase.Closed ∷ []) (k.ended.turned ∙ ap (turns_made s.finish) running) ∙ turns_closed s.finish (λ e. cc (sym (ap is_aborted e) ∙ aborted)));
         logged = k.ended.logged ∙ (ap (ends_logged s.finish) running ∙ abort_logged s.finish aborted);
         last = k.ended.last;
+        drained = λ d _. absurd (not_both s.finish d aborted);
+        own = turned_own s.plan.hands s.intake_seat i t.intake_found (Turned s.plan.hands phase.Closed ∷ []) t.turn k.intake_seat.number_is refl k.ended.own;
         running = λ e. absurd (cc e);
         over = λ _. over;
       };
@@ -247,6 +250,8 @@ module _ (s : ClientState) (k : IsClient s) (running : s.closed ≡ false) (i : 
             turned = t.turned ∙ (ap (λ l. l ++ phase.Closed ∷ []) (k.ended.turned ∙ ap (turns_made s.finish) running) ∙ turns_closed s.finish (λ e. cc (sym (ap is_drained e) ∙ drained)));
             logged = filter_one is_end s.log Drained refl ∙ (ap (λ l. l ++ Drained ∷ []) none_logged ∙ drain_logged s.finish drained);
             last = λ e. absurd (not_both s.finish drained e);
+            drained = λ _ _. record { before = s.log; rest = []; split = refl; answers = refl };
+            own = turned_own s.plan.hands s.intake_seat i t.intake_found (Turned s.plan.hands phase.Closed ∷ []) t.turn k.intake_seat.number_is refl k.ended.own;
             running = λ e. absurd (cc e);
             over = λ _. over_drained s.finish s.log (seen_by i) (seen_by m) over;
           };

@@ -3,6 +3,7 @@ use Rattle.std.proofs.Common.{◌≡◌, ℕ, ◌+◌, ◌≤◌, Bool, true, fa
 use Rattle.atomic_table.specs.Seated.{TableId}
 use Rattle.host_block.specs.Room.{WithRoom}
 use Rattle.host_intake.specs.declared.entry.IntakeEntry.{IntakeEntry}
+use Rattle.host_intake.specs.declared.entry.IntakeEntry.TheVariants.{Turned}
 use Rattle.host_intake.specs.declared.entry.Phase.TheVariants as phase
 use Rattle.host_intake.specs.Told.{turns}
 use Rattle.host_model.specs.declared.event.Event.{Event}
@@ -23,6 +24,7 @@ use Rattle.host_session.specs.Client.{ClientState, IntakeSeat, ends_logged, is_a
 use Rattle.host_session.specs.ClientFields.{IsCounted, IsKept, client_state}
 use Rattle.host_session.specs.Closing.{HasTurned}
 use Rattle.host_session.specs.Endings.{owed_count}
+use Rattle.host_session.proofs.Blocks.{turned_own}
 use Rattle.host_session.specs.Kept.{HasRings, IsClient, IsLog}
 use Rattle.host_session.specs.Plan.{SessionPlan, intake_plan}
 use Rattle.host_session.proofs.Course.{course_quiet}
@@ -65,6 +67,8 @@ module _ (s : ClientState) (k : IsClient s) (running : s.finish ≡ None) (q : I
       turned = t.only ∙ ap (turns_made (Some Drain)) (sym closed);
       logged = none_logged ∙ ap (ends_logged (Some Drain)) (sym closed);
       last = λ e. absurd (cc e);
+      drained = λ _ b. absurd (cc (sym b ∙ closed));
+      own = turned_own s.plan.hands s.intake_seat q t.found (Turned s.plan.hands phase.Draining ∷ []) t.turn k.intake_seat.number_is refl k.ended.own;
       running = k.ended.running;
       over = λ e. absurd (cc (sym e ∙ closed));
     };
@@ -89,6 +93,8 @@ module _ (s : ClientState) (k : IsClient s) (running : s.finish ≡ None) (q : I
           turned = t.only ∙ ap (turns_made (Some Abort)) (sym closed);
           logged = filter_one is_end s.log Aborted refl ∙ (ap (λ l. l ++ Aborted ∷ []) none_logged ∙ ap (ends_logged (Some Abort)) (sym closed));
           last = λ e. (s.log, refl);
+          drained = λ e _. absurd (cc e);
+          own = turned_own s.plan.hands s.intake_seat q t.found (Turned s.plan.hands phase.Aborted ∷ []) t.turn k.intake_seat.number_is refl k.ended.own;
           running = k.ended.running;
           over = λ e. absurd (cc (sym e ∙ closed));
         };

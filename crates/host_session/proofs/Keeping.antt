@@ -22,10 +22,12 @@ use Rattle.host_turn.specs.History.{entries_of}
 use Rattle.host_session.specs.declared.spec.SessionSpec.{SessionSpec}
 use Rattle.host_session.specs.Acts.{Act, AreLate, before_drained, fronts_after, is_drained}
 use Rattle.host_session.specs.Client.{is_aborted}
-use Rattle.host_session.specs.Endings.{IsEndedSoFar, IsOver, owed_count}
+use Rattle.host_session.specs.Client.{is_drained as is_drained_end}
+use Rattle.host_session.specs.Endings.{IsEndedSoFar, IsOver, is_received, owed_count}
 use Rattle.host_session.specs.Kept.{IsLog}
 use Rattle.host_session.specs.Plan.{id_limit}
 use Rattle.host_session.specs.Told.{IsTold, is_release}
+use Rattle.host_session.proofs.Blocks.{drained_more}
 use Rattle.host_session.proofs.Snoc.{below_more, filter_none, filter_one, found_none, found_one, told_none}
 
 -- ---- the log
@@ -84,6 +86,7 @@ told_quiet c size log h e none gives shows t = record {
   entries = t.entries ∙ sym (told_none entry_after log e none);
   ids = let g : given (log ++ e ∷ []) ≡ given log = found_none given_id log e gives in g ∙ (t.ids ∙ ap (λ x. range_with_len 1 (length x)) (sym g));
   shows = found_none shown_bytes log e shows ∙ t.shows;
+  found = t.found;
   own = t.own;
 }
 
@@ -91,12 +94,14 @@ told_quiet c size log h e none gives shows t = record {
 
 -- an event while the session isn't closed, and wasn't aborted
 pub ended_quiet : (c : ℕ) (finish : Option Finish) (closed : Bool) (log : List Event) (es : List IntakeEntry) (h : List MemEntry) (e : Event) → is_end e ≡ false → is_aborted finish ≡ false
-    → (closed ≡ true → IsOver finish (log ++ e ∷ []) es h) → IsEndedSoFar c finish closed log es h → IsEndedSoFar c finish closed (log ++ e ∷ []) es h
-ended_quiet c finish closed log es h e inner not_aborted over t = record {
+    → (closed ≡ true → IsOver finish (log ++ e ∷ []) es h) → (is_drained_end finish ≡ true → closed ≡ true → is_received e ≡ true) → IsEndedSoFar c finish closed log es h → IsEndedSoFar c finish closed (log ++ e ∷ []) es h
+ended_quiet c finish closed log es h e inner not_aborted over follows t = record {
   first = t.first;
   turned = t.turned;
   logged = filter_none is_end log e inner ∙ t.logged;
   last = λ a. absurd (cc (sym a ∙ not_aborted));
+  drained = λ d b. drained_more log e (follows d b) (t.drained d b);
+  own = t.own;
   running = t.running;
   over = over;
 }

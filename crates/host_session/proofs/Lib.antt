@@ -1,3 +1,4 @@
+pub mod Blocks
 pub mod Clients
 pub mod Counting
 pub mod Course

@@ -22,7 +22,7 @@ use Rattle.host_model.specs.declared.memory.MemEntry.{MemEntry}
 use Rattle.host_model.specs.declared.memory.MemEvent.{MemEvent}
 use Rattle.host_model.specs.declared.memory.MemEvent.TheVariants.{Release}
 use Rattle.host_model.specs.ClientEntries.{is_client}
-use Rattle.host_model.specs.Lists.{last, map_with_before}
+use Rattle.host_model.specs.Lists.{all_with_before, last, map_with_before}
 use Rattle.host_record.specs.declared.finish.Finish.{Finish}
 use Rattle.host_record.specs.declared.finish.Finish.TheVariants.{Drain, Abort}
 use Rattle.host_model.specs.Pages.{found_by}
@@ -31,7 +31,8 @@ use Rattle.host_turn.specs.Seats.{IsOutside, IsSameSeat, number, seen_by}
 use Rattle.host_session.specs.Acts.{Act, AreLate, before_drained, fronts_after, is_drained}
 use Rattle.host_session.specs.Client.{IntakeSeat, phase_for}
 use Rattle.host_session.specs.Closing.{FoundPin, HasClosed, HasNotClosed, HasReleased, IsClosedInTurn, IsOpenInTurn, is_landed, is_unfinished, releases_by}
-use Rattle.host_session.specs.Told.{IsTold, is_by_client, is_release}
+use Rattle.host_session.specs.Told.{IsTold, finds_blocks, is_by_client, is_release}
+use Rattle.host_session.proofs.Blocks.{found_rest}
 use Rattle.host_session.specs.Visits.{IsVisit, entry_by}
 use Rattle.host_model.proofs.ListTests.{and-from}
 use Rattle.host_session.proofs.Keeping.{own_stands}
@@ -71,6 +72,7 @@ told_released c size log h ids t = record {
   entries = ap (filter is_client) (map-append (λ (e : MemEntry). e.what) h (releases_by c ids)) ∙ (filter_rest is_client (events h) (events (releases_by c ids)) (none_client c ids) ∙ t.entries);
   ids = t.ids;
   shows = t.shows ∙ sym (ap (map_with_before (found_by size)) (map-append (λ (e : MemEntry). e.what) h (releases_by c ids)) ∙ told_rest (found_by size) is_client (finds_none size) (events h) (events (releases_by c ids)) (none_client c ids));
+  found = ap (all_with_before finds_blocks) (map-append (λ (e : MemEntry). e.what) h (releases_by c ids)) ∙ found_rest (events h) (events (releases_by c ids)) (none_client c ids) t.found;
   own = ap (λ l. list_all is_by_client (events l)) (own_append c h (releases_by c ids) ∙ ap (λ l. entries_of (λ e. e.hand) c h ++ l) (all_own c ids))
       ∙ (ap (list_all is_by_client) (map-append (λ (e : MemEntry). e.what) (entries_of (λ e. e.hand) c h) (releases_by c ids))
       ∙ (list_all-append is_by_client (events (entries_of (λ e. e.hand) c h)) (events (releases_by c ids))

@@ -56,7 +56,7 @@ module _ (a : Inside) (k : IsKept a) (mid : MemorySeat) (m : MemoryState) (same 
       let ev : Event = Filled id block cnt byte true in
       let v : IsVisit a.fronts.memory a.memory_seat q m.entries (entry_by a.hands w ∷ []) = visit a k mid m same story later fixed past numbers q (entry_by a.hands w ∷ []) out (left_with w n q (done refl) seen) in
       visit_kept a k q ev
-      (kept_entry (client_state a) k.client q m.entries (numbered a k mid m same story later fixed past numbers) w ev v running room refl refl refl refl refl refl refl refl (quiet_ids ev refl) (quiet_few ev refl) refl (λ x p. p))
+      (kept_entry (client_state a) k.client q m.entries (numbered a k mid m same story later fixed past numbers) w ev v running room refl refl refl refl refl refl refl refl (quiet_ids ev refl) (quiet_few ev refl) refl (sym answer) (λ x p. p))
       v.seat.0.0 l front a.given log_is (front_is ∙ ap length (sym seen)) refl refl (quiet_given ev refl)
   filled_kept id block cnt byte false n q l front answer done not_done front_is out seen log_is =
       let ev : Event = Filled id block cnt byte false in
@@ -78,7 +78,7 @@ module _ (a : Inside) (k : IsKept a) (mid : MemorySeat) (m : MemoryState) (same 
       let v : IsVisit a.fronts.memory a.memory_seat q m.entries (entry_by a.hands w ∷ []) = visit a k mid m same story later fixed past numbers q (entry_by a.hands w ∷ []) out (left_with w n q (done refl) seen) in
       let shown : Some bytes ≡ found_by a.spec.size (history m) w = sym (found refl) ∙ ap (λ (p : MemoryPlan). found_by p.limits.size (history m) w) (plan_is a k mid m same story later fixed past numbers) in
       visit_kept a k q ev
-      (kept_entry (client_state a) k.client q m.entries (numbered a k mid m same story later fixed past numbers) w ev v running room refl refl refl refl refl refl refl refl (quiet_ids ev refl) (quiet_few ev refl) shown (λ x p. p))
+      (kept_entry (client_state a) k.client q m.entries (numbered a k mid m same story later fixed past numbers) w ev v running room refl refl refl refl refl refl refl refl (quiet_ids ev refl) (quiet_few ev refl) shown (sym answer) (λ x p. p))
       v.seat.0.0 l front a.given log_is (front_is ∙ ap length (sym seen)) refl refl (quiet_given ev refl)
   shown_kept id block cnt bytes false n q l front answer found done not_done front_is out seen log_is =
       let ev : Event = Shown id block cnt false bytes in
@@ -131,7 +131,7 @@ module _ (a : Inside) (k : IsKept a) (mid : MemorySeat) (m : MemoryState) (same 
       let rightly : not (length (given a.log.items) == 65535) ≡ true = ap not (ne_eqb (length (given a.log.items)) 65535 (λ e. omega (arith, few, e))) in
       let entry : Some (Attach id pages (length (sent a.log.items))) ≡ Some w = ap (λ x. Some (Attach id pages x)) (sym k.counted.sent) in
       visit_kept a k q ev
-      (kept_entry (client_state a) k.client q m.entries (numbered a k mid m same story later fixed past numbers) w ev v running room refl entry refl refl refl refl refl rightly ids (omega (arith, len, few)) refl (λ x p. p))
+      (kept_entry (client_state a) k.client q m.entries (numbered a k mid m same story later fixed past numbers) w ev v running room refl entry refl refl refl refl refl rightly ids (omega (arith, len, few)) refl refl (λ x p. p))
       v.seat.0.0 l front (a.given + 1) log_is (front_is ∙ ap length (sym seen)) refl refl (ap (λ x. x + 1) k.counted.given ∙ sym len)
 
   pub attached_answer : (id pages : ℕ) (n : MemoryState) (q : MemorySeat) (l : WithRoom Event) (front : ℕ)

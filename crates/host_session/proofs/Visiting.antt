@@ -17,7 +17,7 @@ use Rattle.host_model.specs.declared.memory.MemEvent.{MemEvent}
 use Rattle.host_model.specs.declared.memory.MemEvent.TheVariants.{Attach, Fill, Show, Pin, Lift, Land, Done, Release}
 use Rattle.host_model.specs.declared.memory.MemEvent.TheVariants as mem
 use Rattle.host_model.specs.ClientEntries.{entry_after, is_client, told}
-use Rattle.host_model.specs.Lists.{count, map_with_before}
+use Rattle.host_model.specs.Lists.{all_with_before, count, map_with_before}
 use Rattle.host_model.specs.Log.{given, given_id, received_bytes, sent_bytes, sent_index}
 use Rattle.host_model.specs.Pages.{found_by, shown_bytes}
 use Rattle.host_model.specs.Taking.{is_end, runs_out_rightly}
@@ -31,7 +31,8 @@ use Rattle.host_session.specs.Client.{AreWithin, ClientState, is_aborted, room_l
 use Rattle.host_session.specs.Endings.{IsEndedSoFar}
 use Rattle.host_session.specs.Kept.{HasRings, IsClient, IsLog}
 use Rattle.host_session.specs.Plan.{IsSeatIn, id_limit, memory_plan}
-use Rattle.host_session.specs.Told.{IsTold, is_by_client, is_release}
+use Rattle.host_session.specs.Told.{IsTold, finds_blocks, is_by_client, is_release}
+use Rattle.host_session.proofs.Blocks.{found_more, found_rest}
 use Rattle.host_session.specs.Visits.{IsVisit, entry_by}
 use Rattle.host_session.proofs.Course.{course_entry, course_quiet, course_seen, no_client, within_trans}
 use Rattle.host_session.proofs.Keeping.{log_given, log_quiet, none_late, one_more_fits, told_quiet}
@@ -81,20 +82,22 @@ module _ (c size : ℕ) (log : List Event) (h rest : List MemEntry) (none : filt
     entries = ap (filter is_client) (map-append (λ (e : MemEntry). e.what) h rest) ∙ (filter_rest is_client (events h) (events rest) none ∙ t.entries);
     ids = t.ids;
     shows = t.shows ∙ sym (ap (map_with_before (found_by size)) (map-append (λ (e : MemEntry). e.what) h rest) ∙ told_rest (found_by size) is_client (finds_none size) (events h) (events rest) none);
+    found = ap (all_with_before finds_blocks) (map-append (λ (e : MemEntry). e.what) h rest) ∙ found_rest (events h) (events rest) none t.found;
     own = ap (λ l. list_all is_by_client (events l)) own ∙ t.own;
   }
 
 -- ---- one entry more of the client's
 
 module _ (c size : ℕ) (log : List Event) (h : List MemEntry) (ev : Event) (w : MemEvent) (client : is_client w ≡ true) (entry : entry_after log ev ≡ Some w) where
-  pub told_entry : given (log ++ ev ∷ []) ≡ range_with_len 1 (length (given (log ++ ev ∷ []))) → shown_bytes ev ≡ found_by size (events h) w → IsTold c size log h → IsTold c size (log ++ ev ∷ []) (h ++ entry_by c w ∷ [])
-  told_entry ids shown t = record {
+  pub told_entry : given (log ++ ev ∷ []) ≡ range_with_len 1 (length (given (log ++ ev ∷ []))) → shown_bytes ev ≡ found_by size (events h) w → finds_blocks (events h) w ≡ true → IsTold c size log h → IsTold c size (log ++ ev ∷ []) (h ++ entry_by c w ∷ [])
+  told_entry ids shown finds t = record {
     entries = ap (filter is_client) (map-append (λ (e : MemEntry). e.what) h (entry_by c w ∷ []))
         ∙ (filter_one is_client (events h) w client ∙ (ap (λ l. l ++ w ∷ []) t.entries ∙ sym (told_one entry_after log ev w entry)));
     ids = ids;
     shows = filter_map-append shown_bytes log (ev ∷ [])
         ∙ (ap₂ (λ l o. l ++ cons_option o []) t.shows shown
         ∙ sym (ap (map_with_before (found_by size)) (map-append (λ (e : MemEntry). e.what) h (entry_by c w ∷ [])) ∙ told_append (found_by size) (events h) w));
+    found = ap (all_with_before finds_blocks) (map-append (λ (e : MemEntry). e.what) h (entry_by c w ∷ [])) ∙ found_more (events h) w finds t.found;
     own = ap (λ l. list_all is_by_client (events l)) (own_one c h w)
         ∙ (ap (list_all is_by_client) (map-append (λ (e : MemEntry). e.what) (entries_of (λ e. e.hand) c h) (entry_by c w ∷ []))
         ∙ (list_all-append is_by_client (events (entries_of (λ e. e.hand) c h)) (w ∷ [])
@@ -133,10 +136,10 @@ module _ (s : ClientState) (k : IsClient s) (q : MemorySeat) (found : List MemEn
   module _ (w : MemEvent) (ev : Event) (v : IsVisit s.fronts.memory s.memory_seat q found (entry_by s.plan.hands w ∷ [])) (running : s.finish ≡ None) (room : 1 ≤ room_left s)
       (client : is_client w ≡ true) (entry : entry_after s.log ev ≡ Some w) (has : has_entry ev ≡ true) (inner : is_end ev ≡ false) (sends : sent_bytes ev ≡ None) (sends' : sent_index ev ≡ None) (receives : received_bytes ev ≡ None) where
     pub kept_entry : runs_out_rightly s.log ev ≡ true → given (s.log ++ ev ∷ []) ≡ range_with_len 1 (length (given (s.log ++ ev ∷ []))) → length (given (s.log ++ ev ∷ [])) ≤ id_limit s.plan.spec
-        → shown_bytes ev ≡ found_by s.plan.spec.size (events found) w
+        → shown_bytes ev ≡ found_by s.plan.spec.size (events found) w → finds_blocks (events found) w ≡ true
         → ((a : Act) → HasPlace (fronts_after k.acts) a → IsEventAfter (found ++ entry_by s.plan.hands w ∷ []) k.acts a ev)
         → IsClient (with_event (with_visit s q) ev)
-    kept_entry rightly ids few shown is =
+    kept_entry rightly ids few shown finds is =
         let e : MemEntry = entry_by s.plan.hands w in
         let h' : List MemEntry = found ++ e ∷ [] in
         let f : Fronts = record { device = s.fronts.device; memory = length found } in
@@ -158,13 +161,15 @@ module _ (s : ClientState) (k : IsClient s) (q : MemorySeat) (found : List MemEn
           page_size = k.page_size;
           rings = record { sender = k.rings.sender; taker = k.rings.taker };
           log = log_given s.plan.spec s.log k.log ev inner sends sends' few rightly (one_more_fits s.plan.spec.events (count (λ x. not (is_end x)) s.log) room);
-          told = subst (λ l. IsTold s.plan.hands s.plan.spec.size (s.log ++ ev ∷ []) l) (sym v.left) (told_entry s.plan.hands s.plan.spec.size s.log found ev w client entry ids shown (told_found rest whole same));
+          told = subst (λ l. IsTold s.plan.hands s.plan.spec.size (s.log ++ ev ∷ []) l) (sym v.left) (told_entry s.plan.hands s.plan.spec.size s.log found ev w client entry ids shown finds (told_found rest whole same));
           seen = omega arith;
           ended = record {
             first = k.ended.first;
             turned = k.ended.turned;
             logged = filter_none is_end s.log ev inner ∙ k.ended.logged;
             last = λ b. absurd (cc (sym b ∙ ap is_aborted running));
+            drained = λ _ b. absurd (cc (sym b ∙ closed));
+            own = k.ended.own;
             running = λ _. ap (λ l. list_any is_release (events (entries_of (λ x. x.hand) s.plan.hands l))) v.left ∙ none;
             over = λ b. absurd (cc (sym b ∙ closed));
           };
@@ -206,6 +211,8 @@ module _ (s : ClientState) (k : IsClient s) (q : MemorySeat) (found : List MemEn
           turned = k.ended.turned;
           logged = filter_none is_end s.log ev inner ∙ k.ended.logged;
           last = λ b. absurd (cc (sym b ∙ ap is_aborted running));
+          drained = λ _ b. absurd (cc (sym b ∙ closed));
+          own = k.ended.own;
           running = λ _. ap (λ l. list_any is_release (events (entries_of (λ x. x.hand) s.plan.hands l))) left ∙ none;
           over = λ b. absurd (cc (sym b ∙ closed));
         };

@@ -1,14 +1,15 @@
 -- How a session ends, as its client sees it.
-use Rattle.std.specs.Prelude.{◌≡◌, ℕ, ◌≤◌, Bool, true, false, ◌&&◌, ◌||◌, nat_lt, List, [], ◌∷◌, ◌++◌, length, filter, Option, Some, None}
-use Rattle.std.specs.List.{list_any}
+use Rattle.std.specs.Prelude.{◌≡◌, ℕ, ◌≤◌, Bool, true, false, ◌&&◌, ◌||◌, nat_lt, List, [], ◌∷◌, ◌++◌, length, filter, IsTrue, Option, Some, None}
+use Rattle.std.specs.List.{list_all, list_any}
 use Rattle.host_intake.specs.declared.entry.IntakeEntry.{IntakeEntry}
-use Rattle.host_intake.specs.Entries.{takings}
+use Rattle.host_intake.specs.declared.entry.IntakeEntry.TheVariants.{Turned}
+use Rattle.host_intake.specs.Entries.{maker_of, takings}
 use Rattle.host_intake.specs.Told.{flights_in, kept_slips, turns}
 use Rattle.host_memory.specs.Held.{first_held}
 use Rattle.host_memory.specs.Pins.{pins_left}
 use Rattle.host_memory.specs.State.{events}
 use Rattle.host_model.specs.declared.event.Event.{Event}
-use Rattle.host_model.specs.declared.event.Event.TheVariants.{Aborted}
+use Rattle.host_model.specs.declared.event.Event.TheVariants.{Aborted, Drained, Received}
 use Rattle.host_model.specs.declared.memory.MemEntry.{MemEntry}
 use Rattle.host_model.specs.Groups.{owed}
 use Rattle.host_model.specs.Log.{received, requests, sent}
@@ -38,11 +39,30 @@ pub record IsOver (finish : Option Finish) (log : List Event) (es : List IntakeE
   pub taken : is_drained finish ≡ true → length (sent log) ≤ length (takings es)
   pub answered : is_drained finish ≡ true → owed_count log ≤ length (received log)
 
+-- an answer that was received
+abbrev pub is_received : Event → Bool
+is_received (Received bytes) = true
+is_received _ = false
+
+-- nothing but answers stands behind the drain
+pub record IsDrainedLog (log : List Event) : Type 0 where
+  pub before : List Event
+  pub rest : List Event
+  pub split : log ≡ before ++ Drained ∷ rest
+  pub answers : IsTrue (list_all is_received rest)
+
+abbrev pub is_turn : IntakeEntry → Bool
+is_turn (Turned hand phase) = true
+is_turn _ = false
+
 -- How far the session is ended, by what the client has seen of the intake's history and of the buffers'.
 pub record IsEndedSoFar (client : ℕ) (finish : Option Finish) (closed : Bool) (log : List Event) (es : List IntakeEntry) (h : List MemEntry) : Type 0 where
   pub first : finish ≡ None → closed ≡ false
   pub turned : turns es ≡ turns_made finish closed
   pub logged : filter is_end log ≡ ends_logged finish closed
   pub last : is_aborted finish ≡ true → (before : List Event) × (log ≡ before ++ Aborted ∷ [])
+  pub drained : is_drained finish ≡ true → closed ≡ true → IsDrainedLog log
+  -- what the client did at the intake was to turn it
+  pub own : IsTrue (list_all is_turn (entries_of maker_of client es))
   pub running : closed ≡ false → list_any is_release (events (entries_of (λ e. e.hand) client h)) ≡ false
   pub over : closed ≡ true → IsOver finish log es h

@@ -4,6 +4,7 @@ ghost use Rattle.host_model.specs.Lists.{count};
 ghost use Rattle.host_model.specs.Log.{received, sent};
 ghost use Rattle.host_model.specs.Taking.{is_end};
 ghost use Rattle.host_session.specs.Client.{ends_logged, is_aborted, is_drained, room_left};
+ghost use Rattle.host_session.specs.Endings.{owed_count};
 ghost use Rattle.host_session.specs.Kept.{IsClient};
 
 use crate::fronts::Fronts;
@@ -78,6 +79,13 @@ impl ClientEnd {
         ensures { result ≡ length (received self.now.log) }
     {
         self.received
+    }
+
+    /// How many answers are owed for what was sent.
+    pub fn owed(&self) -> u32
+        ensures { result ≡ owed_count self.now.log }
+    {
+        self.owed
     }
 
     /// How many events still fit into the log, beside the one that ends it.
