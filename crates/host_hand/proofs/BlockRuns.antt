@@ -18,7 +18,7 @@ use Rattle.host_model.specs.RecordEntries.{land_for, lift_for}
 use Rattle.host_record.specs.declared.request.Request.{Request}
 use Rattle.host_hand.specs.declared.errand.Errand.{Errand}
 use Rattle.host_hand.specs.Errands.{IsStepFor}
-use Rattle.host_hand.specs.Moves.{lands_of, lifts_of}
+use Rattle.host_session.specs.Moves.{lands_of, lifts_of}
 use Rattle.host_hand.specs.Runs.{IsRun, IsSpare, moved_by, status_by}
 use Rattle.host_hand.proofs.StepMade.{all_added}
 

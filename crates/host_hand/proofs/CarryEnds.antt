@@ -41,7 +41,7 @@ use Rattle.host_hand.specs.Buffers.{HasLetGo, pages_freed, release_of}
 use Rattle.host_hand.specs.Errands.{IsStepFor, asks_upto}
 use Rattle.host_hand.specs.Frames.{pages_by, pages_in, released_by}
 use Rattle.host_hand.specs.Growth.{EachOwn, HasGrown}
-use Rattle.host_hand.specs.Moves.{moves_by}
+use Rattle.host_session.specs.Moves.{moves_by}
 use Rattle.host_hand.specs.Records.{IsClosedBefore}
 use Rattle.host_hand.specs.Runs.{HasRun, IsRun, status_by}
 use Rattle.host_hand.specs.Works.{HasCarried, IsMoveFor, IsOutcome, IsPastBuffers, IsTransferBy, verdict_of, work_by}

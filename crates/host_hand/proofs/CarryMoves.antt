@@ -20,7 +20,7 @@ use Rattle.host_model.specs.RecordEntries as entries
 use Rattle.host_record.specs.declared.request.Request.{Request}
 use Rattle.host_hand.specs.declared.errand.Errand.{Errand}
 use Rattle.host_hand.specs.Errands.{ask_at, asks_upto}
-use Rattle.host_hand.specs.Moves.{lands_of, lifts_of}
+use Rattle.host_session.specs.Moves.{lands_of, lifts_of}
 use Rattle.host_hand.specs.Runs.{IsRun, IsSpare, moved_by, status_by}
 use Rattle.host_hand.specs.Works.{IsMoveFor}
 

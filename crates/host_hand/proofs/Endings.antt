@@ -22,8 +22,8 @@ use Rattle.host_intake.specs.declared.entry.IntakeEntry.{IntakeEntry}
 use Rattle.host_intake.specs.Entries.{Landing, Taking, request_in, takings}
 use Rattle.host_intake.specs.Takings.{under}
 use Rattle.host_hand.specs.Growth.{EachOwn, HasGrown}
-use Rattle.host_hand.specs.Moves.{moves_owed}
-use Rattle.host_hand.specs.Records.{HasClosed, HasEnded, HasReleased, IsClosedBefore, IsEnding, asks_in, moves_for, steps_for}
+use Rattle.host_session.specs.Moves.{moves_for, moves_owed}
+use Rattle.host_hand.specs.Records.{HasClosed, HasEnded, HasReleased, IsClosedBefore, IsEnding, asks_in, steps_for}
 use Rattle.host_hand.proofs.Entered.{taken_longer, taking_longer}
 use Rattle.host_hand.proofs.Growing.{longer_length, own_grown, stands_longer}
 

@@ -20,7 +20,7 @@ use Rattle.host_intake.proofs.Ledgering.{and_left, and_right}
 use Rattle.host_hand.specs.Growth.{HasAdded}
 use Rattle.host_hand.specs.Kept.{own_landings, own_takings}
 use Rattle.host_hand.specs.Records.{IsMoveTaken, IsPastTaking, IsStepTaken, IsTakenBy}
-use Rattle.host_hand.specs.Slips.{handed_on, slip_by, slip_in}
+use Rattle.host_session.specs.Handed.{handed_by, slip_by, slip_in}
 use Rattle.host_hand.proofs.Growing.{own_rest, stands_append}
 
 -- ---- records that were taken
@@ -101,11 +101,11 @@ handed_rest n before (e ∷ rest) h = at (maker_of e == n) h (handed_rest n (bef
     at true all ih = ap₂ cons_option (slip_same before e (and_left (is_no_pass e) (list_all is_no_pass (entries_of maker_of n rest)) all)) (ih (and_right (is_no_pass e) (list_all is_no_pass (entries_of maker_of n rest)) all))
     at false all ih = ih all
 
-pub handed_added : (n : ℕ) (added old new : List IntakeEntry) → HasAdded maker_of n added old new → list_all is_no_pass added ≡ true → handed_on n new ≡ handed_on n old ++ filter_map slip_now added
+pub handed_added : (n : ℕ) (added old new : List IntakeEntry) → HasAdded maker_of n added old new → list_all is_no_pass added ≡ true → handed_by n new ≡ handed_by n old ++ filter_map slip_now added
 handed_added n added old new a none =
     let own : entries_of maker_of n a.begins.0 ≡ added = own_rest maker_of n added old new a.begins a.own in
-    ap (handed_on n) (sym a.begins.1) ∙ (map_with_before_append (slip_by n) old a.begins.0 ∙ ap (λ l. handed_on n old ++ l) (handed_rest n old a.begins.0 (ap (list_all is_no_pass) own ∙ none) ∙ ap (filter_map slip_now) own))
+    ap (handed_by n) (sym a.begins.1) ∙ (map_with_before_append (slip_by n) old a.begins.0 ∙ ap (λ l. handed_by n old ++ l) (handed_rest n old a.begins.0 (ap (list_all is_no_pass) own ∙ none) ∙ ap (filter_map slip_now) own))
 
 -- the oldest kept answer was handed on
-pub handed_passed : (n : ℕ) (es : List IntakeEntry) (slip : Slip) → slice_get (kept_slips es) 0 ≡ Some slip → handed_on n (es ++ Passed n ∷ []) ≡ handed_on n es ++ slip ∷ []
-handed_passed n es slip oldest = map_with_before_append (slip_by n) es (Passed n ∷ []) ∙ ap (λ l. handed_on n es ++ l) (ap (λ b. cons_option (cond b (slip_in es (Passed n)) None) []) (eq-eqb n n refl) ∙ ap (λ o. cons_option o []) oldest)
+pub handed_passed : (n : ℕ) (es : List IntakeEntry) (slip : Slip) → slice_get (kept_slips es) 0 ≡ Some slip → handed_by n (es ++ Passed n ∷ []) ≡ handed_by n es ++ slip ∷ []
+handed_passed n es slip oldest = map_with_before_append (slip_by n) es (Passed n ∷ []) ∙ ap (λ l. handed_by n es ++ l) (ap (λ b. cons_option (cond b (slip_in es (Passed n)) None) []) (eq-eqb n n refl) ∙ ap (λ o. cons_option o []) oldest)

@@ -49,9 +49,9 @@ use Rattle.host_hand.specs.Visits.{begun_by, is_begun}
 use Rattle.host_hand.specs.Growth.{EachOwn, HasAdded, HasGrown}
 use Rattle.host_hand.specs.Jobs.{HasTakenNext}
 use Rattle.host_hand.specs.Kept.{IsAtSession, is_judged_within, is_settled, own_landings, own_takings}
-use Rattle.host_hand.specs.Moves.{moves_owed}
-use Rattle.host_hand.specs.Records.{HasClosed, HasEnded, HasReleased, IsEnding, IsMoveTaken, IsPastTaking, IsStepTaken, IsTakenBy, moves_for, steps_for}
-use Rattle.host_hand.specs.Slips.{handed_on}
+use Rattle.host_session.specs.Moves.{moves_for, moves_owed}
+use Rattle.host_hand.specs.Records.{HasClosed, HasEnded, HasReleased, IsEnding, IsMoveTaken, IsPastTaking, IsStepTaken, IsTakenBy, steps_for}
+use Rattle.host_session.specs.Handed.{handed_by}
 use Rattle.host_hand.specs.Works.{HasCarried, IsFor, IsMoveFor, IsOutcome, IsPastBuffers, verdict_of}
 use Rattle.host_hand.proofs.Endings.{IsOf, all_map, entry_other, is_step_of, moves_added, released_longer, steps_added, steps_of_this}
 use Rattle.host_hand.proofs.Entered.{handed_added, is_no_pass, own_takings_added, slip_now, taken_longer, taking_longer}
@@ -389,11 +389,11 @@ module _ (spec : SessionSpec) (n : ℕ) (pool : TableId × ℕ) (before es1 es2 
       no_pass : list_all is_no_pass (entry_for t ∷ (closes.added ++ own_landed)) ≡ true
       no_pass = list_all-append is_no_pass closes.added own_landed ∙ ap (λ b. b && true) closes.passes
 
-      slips_now : s''.pushed ≡ handed_on n es3
+      slips_now : s''.pushed ≡ handed_by n es3
       slips_now = ap (λ (x : SlipSenderState). x.pushed) f.sender
           ∙ (ap (λ l. l ++ slips_pushed kept answer) (closes.slips ∙ ap (λ l. l ++ filter_map slip_now closes.added) f.keeps.slips)
-          ∙ (append_assoc (handed_on n before) (filter_map slip_now closes.added) (slips_pushed kept answer)
-          ∙ (ap (λ l. handed_on n before ++ l) (sym pushed_all) ∙ sym (handed_added n (entry_for t ∷ (closes.added ++ own_landed)) before es3 all_added no_pass))))
+          ∙ (append_assoc (handed_by n before) (filter_map slip_now closes.added) (slips_pushed kept answer)
+          ∙ (ap (λ l. handed_by n before ++ l) (sym pushed_all) ∙ sym (handed_added n (entry_for t ∷ (closes.added ++ own_landed)) before es3 all_added no_pass))))
 
   -- the hand keeps the session
   pub kept_ended : IsAtSession spec n es3 h' new_s s''.pushed

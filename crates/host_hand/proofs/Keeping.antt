@@ -24,7 +24,7 @@ use Rattle.host_session.specs.declared.spec.SessionSpec.{SessionSpec}
 use Rattle.host_hand.specs.Growth.{EachOwn, HasAdded, HasGrown}
 use Rattle.host_hand.specs.Kept.{IsAtSession, is_judged_within, is_settled, own_landings, own_takings}
 use Rattle.host_hand.specs.Records.{IsClosedBefore, IsEnding, IsMoveTaken, IsStepTaken}
-use Rattle.host_hand.specs.Slips.{handed_on}
+use Rattle.host_session.specs.Handed.{handed_by}
 use Rattle.host_hand.specs.Visits.{begun_by, is_begun}
 use Rattle.host_hand.proofs.Endings.{IsOf, all_map, closed_before_longer, ending_kept}
 use Rattle.host_hand.proofs.Entered.{handed_added, handed_passed, move_taken_longer, own_landings_added, own_takings_added, step_taken_longer}
@@ -52,7 +52,7 @@ pub record Growth (spec : SessionSpec) (n : ℕ) (es more : List IntakeEntry) (h
   pub closers : EachOwn (λ e. e.hand) n (λ p e. length h ≤ p → IsClosedBefore h' p e) h'
   pub settled : list_all (is_settled (own_landings n es ++ landings added)) (takings added) ≡ true
   pub endings : All (IsEnding spec.part spec.number n more h' made') (landings added)
-  pub slips : pushed ≡ handed_on n more
+  pub slips : pushed ≡ handed_by n more
   pub seen : list_all (is_judged_within (length h')) (takings added) ≡ true
 
 -- a record that has ended stays so
@@ -115,7 +115,7 @@ taken_added n es more t by is = added_turn maker_of n (entry_for t ∷ []) es es
 
 module _ (spec : SessionSpec) (n : ℕ) (es more : List IntakeEntry) (h h' : List MemEntry) (made : List Step) where
   -- the hand's own entries are these; it made no step, and did nothing to the buffers
-  quiet : (pushed : List Slip) (added : List IntakeEntry) → HasAdded maker_of n added es more → Continues (λ e. e.hand) n h h' → pushed ≡ handed_on n more
+  quiet : (pushed : List Slip) (added : List IntakeEntry) → HasAdded maker_of n added es more → Continues (λ e. e.hand) n h h' → pushed ≡ handed_by n more
       → list_all (is_settled (own_landings n es ++ landings added)) (takings added) ≡ true → landings added ≡ [] → list_all (is_judged_within (length h')) (takings added) ≡ true → Growth spec n es more h h' made made pushed
   quiet pushed added a c slips settled none seen = record {
     added = added;
@@ -144,21 +144,21 @@ module _ (spec : SessionSpec) (n : ℕ) (es more : List IntakeEntry) (h h' : Lis
   pub kept_later : (pushed : List Slip) → Continues maker_of n es more → Continues (λ e. e.hand) n h h' → IsAtSession spec n es h made pushed → IsAtSession spec n more h' made pushed
   kept_later pushed c d k =
       let a = added_nothing maker_of n es more c in
-      kept_more spec n es more h h' made made pushed pushed k (quiet pushed [] a d (k.slips ∙ sym (handed_added n [] es more a refl ∙ append-nil (handed_on n es))) refl refl refl)
+      kept_more spec n es more h h' made made pushed pushed k (quiet pushed [] a d (k.slips ∙ sym (handed_added n [] es more a refl ∙ append-nil (handed_by n es))) refl refl refl)
 
   -- a close was taken that waits
   pub kept_waiting : (pushed : List Slip) (t : Taking) → t.hand ≡ n → t.waits ≡ true → t.seen ≤ length h' → more ≡ es ++ entry_for t ∷ [] → Continues (λ e. e.hand) n h h' → IsAtSession spec n es h made pushed → IsAtSession spec n more h' made pushed
   kept_waiting pushed t by waits seen is d k =
       let a = taken_added n es more t by is in
       kept_more spec n es more h h' made made pushed pushed k
-      (quiet pushed (entry_for t ∷ []) a d (k.slips ∙ sym (handed_added n (entry_for t ∷ []) es more a refl ∙ append-nil (handed_on n es))) (ap (λ w. (w || list_any (is_landing_of (place_of t)) (own_landings n es ++ [])) && true) waits) refl (ap (λ b. b && true) (le-leb t.seen (length h') seen)))
+      (quiet pushed (entry_for t ∷ []) a d (k.slips ∙ sym (handed_added n (entry_for t ∷ []) es more a refl ∙ append-nil (handed_by n es))) (ap (λ w. (w || list_any (is_landing_of (place_of t)) (own_landings n es ++ [])) && true) waits) refl (ap (λ b. b && true) (le-leb t.seen (length h') seen)))
 
   -- the oldest kept answer was handed on
   pub kept_passed : (pushed : List Slip) (slip : Slip) → slice_get (kept_slips es) 0 ≡ Some slip → more ≡ es ++ Passed n ∷ [] → Continues (λ e. e.hand) n h h' → IsAtSession spec n es h made pushed → IsAtSession spec n more h' made (pushed ++ slip ∷ [])
   kept_passed pushed slip oldest is d k =
       let a = added_turn maker_of n (Passed n ∷ []) es es more (prefix_refl es, refl) is (All-cons (λ e. maker_of e ≡ n) (Passed n) [] refl (All-nil (λ e. maker_of e ≡ n))) in
       kept_more spec n es more h h' made made pushed (pushed ++ slip ∷ []) k
-      (quiet (pushed ++ slip ∷ []) (Passed n ∷ []) a d (ap (λ l. l ++ slip ∷ []) k.slips ∙ sym (ap (handed_on n) is ∙ handed_passed n es slip oldest)) refl refl refl)
+      (quiet (pushed ++ slip ∷ []) (Passed n ∷ []) a d (ap (λ l. l ++ slip ∷ []) k.slips ∙ sym (ap (handed_by n) is ∙ handed_passed n es slip oldest)) refl refl refl)
 
 -- ---- what was begun
 

@@ -13,8 +13,8 @@ use Rattle.host_intake.specs.Entries.{Landing, Taking, request_in}
 use Rattle.host_session.specs.declared.spec.SessionSpec.{SessionSpec}
 use Rattle.host_hand.specs.Growth.{HasAdded}
 use Rattle.host_hand.specs.Kept.{IsAtSession, own_landings}
-use Rattle.host_hand.specs.Moves.{moves_owed}
-use Rattle.host_hand.specs.Records.{HasEnded, IsEnding, IsStepTaken, asks_in, moves_for, steps_for}
+use Rattle.host_session.specs.Moves.{moves_for, moves_owed}
+use Rattle.host_hand.specs.Records.{HasEnded, IsEnding, IsStepTaken, asks_in, steps_for}
 use Rattle.host_hand.proofs.Endings.{all_map, is_step_of}
 use Rattle.host_hand.proofs.Growing.{own_place}
 

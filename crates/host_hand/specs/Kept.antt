@@ -12,7 +12,7 @@ use Rattle.host_session.specs.declared.hand.SessionHand.{SessionHand}
 use Rattle.host_session.specs.declared.spec.SessionSpec.{SessionSpec}
 use Rattle.host_hand.specs.Growth.{EachOwn}
 use Rattle.host_hand.specs.Records.{IsClosedBefore, IsEnding, IsMoveTaken, IsStepTaken}
-use Rattle.host_hand.specs.Slips.{handed_on}
+use Rattle.host_session.specs.Handed.{handed_by}
 
 -- the records that hand n took, and those whose end it told
 abbrev pub own_takings : ℕ → List IntakeEntry → List Taking
@@ -42,7 +42,7 @@ pub record IsAtSession (spec : SessionSpec) (n : ℕ) (es : List IntakeEntry) (h
   -- each record whose end it told was carried out, or is a close that waited
   pub endings : All (IsEnding spec.part spec.number n es h made) (own_landings n es)
   -- the slips that it pushed are the answers that it handed on
-  pub slips : pushed ≡ handed_on n es
+  pub slips : pushed ≡ handed_by n es
   -- it has seen the buffer histories on which its records were judged
   pub seen : IsTrue (list_all (is_judged_within (length h)) (own_takings n es))
 

@@ -1,7 +1,5 @@
 pub mod Growth
-pub mod Moves
 pub mod Records
-pub mod Slips
 pub mod Frames
 pub mod Kept
 pub mod Posts

@@ -1,14 +1,13 @@
 -- How the records that a hand took ended, by what the hand did for them.
-use Rattle.std.specs.Prelude.{◌≡◌, ◌⊎◌, ℕ, ◌+◌, ◌<◌, ◌≤◌, ◌==◌, ◌&&◌, false, true, List, filter, filter_map, length, take, slice_get, is_some, IsTrue, Option, Some, MatchOption}
+use Rattle.std.specs.Prelude.{◌≡◌, ◌⊎◌, ℕ, ◌+◌, ◌<◌, ◌≤◌, ◌==◌, ◌&&◌, false, true, List, filter, length, take, slice_get, is_some, IsTrue, Option, Some, MatchOption}
 use Rattle.host_block.specs.declared.range.Range.{Range}
 use Rattle.host_model.specs.declared.memory.MemEntry.{MemEntry}
-use Rattle.host_model.specs.declared.memory.MemEvent.{MemEvent}
 use Rattle.host_model.specs.declared.memory.MemEvent.TheVariants.{Release}
 use Rattle.host_model.specs.declared.step.Step.{Step}
 use Rattle.host_model.specs.declared.verdict.Verdict.TheVariants.{Accepted}
 use Rattle.host_record.specs.declared.status.Status.TheVariants as status
 use Rattle.host_model.specs.Carrying.{Ask, asked, carries_out, outcome_of}
-use Rattle.host_model.specs.RecordEntries.{index_of, entry_of}
+use Rattle.host_model.specs.RecordEntries.{index_of}
 use Rattle.host_memory.specs.Held.{closer_of}
 use Rattle.host_memory.specs.State.{events}
 use Rattle.host_turn.specs.History.{entries_of}
@@ -16,17 +15,13 @@ use Rattle.host_intake.specs.declared.entry.IntakeEntry.{IntakeEntry}
 use Rattle.host_intake.specs.Entries.{Taking, Landing, takings, request_in}
 use Rattle.host_intake.specs.Takings.{made}
 use Rattle.host_hand.specs.Growth.{EachOwn}
-use Rattle.host_hand.specs.Moves.{moves_owed}
+use Rattle.host_session.specs.Moves.{moves_for, moves_owed}
 
 -- ---- what a hand did for one record
 
 -- the steps that it made for record i of session s
 abbrev pub steps_for : ℕ → ℕ → ℕ → List Step → List Step
 steps_for n s i steps = filter (λ step. step.session == s && step.index == i) (entries_of (λ step. step.hand) n steps)
-
--- what it did to the buffers for record i
-abbrev pub moves_for : ℕ → ℕ → List MemEntry → List MemEvent
-moves_for n i h = filter_map (entry_of i) (events (entries_of (λ e. e.hand) n h))
 
 -- the steps that a record asks for
 abbrev pub asks_in : Range → Taking → List Ask

@@ -18,7 +18,7 @@ use Rattle.host_hand.specs.declared.errand.Errand.{Errand}
 use Rattle.host_hand.specs.declared.run.Run.{Run}
 use Rattle.host_hand.specs.Errands.{IsStepFor}
 use Rattle.host_hand.specs.Growth.{HasGrown}
-use Rattle.host_hand.specs.Moves.{lands_of, lifts_of}
+use Rattle.host_session.specs.Moves.{lands_of, lifts_of}
 
 -- how a record ends whose last step answered so
 abbrev pub status_by : Result Unit StepError → Status

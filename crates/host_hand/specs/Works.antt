@@ -25,7 +25,7 @@ use Rattle.host_hand.specs.Buffers.{IsFreed, IsHeld, pages_freed, release_of}
 use Rattle.host_hand.specs.Errands.{IsStepFor}
 use Rattle.host_hand.specs.Frames.{released_by}
 use Rattle.host_hand.specs.Growth.{EachOwn, HasGrown}
-use Rattle.host_hand.specs.Moves.{moves_owed}
+use Rattle.host_session.specs.Moves.{moves_owed}
 use Rattle.host_hand.specs.Records.{IsClosedBefore}
 
 -- ---- the work that a record is

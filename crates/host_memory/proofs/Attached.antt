@@ -36,7 +36,7 @@ uncounted p [] e = refl
 uncounted p (x ∷ xs) e = let parts = or_parts (p x) (list_any p xs) e in ap (λ b. length (cond b (x ∷ filter p xs) (filter p xs))) parts.0 ∙ uncounted p xs parts.1
 
 module _ (pool : TableId × ℕ) (size : ℕ) (h : List MemEvent) (v from : ℕ) (p : SeenPages) (none : list_any (λ e. buffer_of e == v) h ≡ false) (of_pool : pages_pool p ≡ pool)
-    (blank : contents p ≡ replicate (length (contents p)) (replicate size 0)) where
+    (blank : contents p ≡ replicate (length (contents p)) (replicate size 0)) (fits : length (contents p) ≤ 4294967295) where
   abbrev entry : MemEvent
   entry = Attach v (length (contents p)) from
 
@@ -61,6 +61,7 @@ module _ (pool : TableId × ℕ) (size : ℕ) (h : List MemEvent) (v from : ℕ)
     unpinned = λ r. refl;
     bytes = λ k lt. blank_page k lt ∙ (sym (ap (last (replicate size 0)) (no_map v (put_by size v k) (λ e n. (leaves_alone size v e n).put k) h none)) ∙ sym (page_same size h v k entry refl));
     long = λ k lt. ap length (blank_page k lt) ∙ length-replicate size 0;
+    few = fits;
   }
 
 module _ (pool : TableId × ℕ) (size : ℕ) (h : List MemEvent) (bs : List Buffer) (t : AreTold pool size h bs) (b : Buffer) (e : MemEvent) (of : buffer_of e ≡ suc (length bs)) (attach : is_attach e ≡ true)
@@ -80,10 +81,10 @@ module _ (pool : TableId × ℕ) (size : ℕ) (h : List MemEvent) (bs : List Buf
   }
 
 module _ (limits : MemoryLimits) (pool : TableId × ℕ) (l : WithRoom MemEntry) (moves left : ℕ) (bs : List Buffer) (k : IsKept limits pool l moves left bs) where
-  attached_here : (from : ℕ) (p : SeenPages) → pages_pool p ≡ pool → contents p ≡ replicate (length (contents p)) (replicate limits.size 0) → used_room (events l.items) + 3 ≤ limits.room → length bs < limits.ids
+  attached_here : (from : ℕ) (p : SeenPages) → pages_pool p ≡ pool → contents p ≡ replicate (length (contents p)) (replicate limits.size 0) → length (contents p) ≤ 4294967295 → used_room (events l.items) + 3 ≤ limits.room → length bs < limits.ids
       → IsKept limits pool (record l { items = l.items ++ record { hand = limits.hands; what = Attach (suc (length bs)) (length (contents p)) from } ∷ [] }) moves left
       (bs ++ record { page_count = length (contents p); from = from; pages = Some p; closer = None; pins = 0 } ∷ [])
-  attached_here from p of_pool blank room few =
+  attached_here from p of_pool blank fits room few =
       let h = events l.items in let v = suc (length bs) in let e = Attach v (length (contents p)) from in
       let b : Buffer = record { page_count = length (contents p); from = from; pages = Some p; closer = None; pins = 0 } in
       let none : list_any (λ x. buffer_of x == v) h ≡ false = k.told.fresh v (omega arith) in
@@ -93,15 +94,15 @@ module _ (limits : MemoryLimits) (pool : TableId × ℕ) (l : WithRoom MemEntry)
       let pins : count is_pin (h ++ e ∷ []) ≡ count is_pin h = count_skip is_pin h e refl in
       let owes = owed_snoc bs b in let long = length-append bs (b ∷ []) in let pinned = k.room.pinned in let enough = k.room.room in
       kept_pushed limits pool l moves left (bs ++ b ∷ []) (record { hand = limits.hands; what = e }) (h ++ e ∷ []) refl
-      (told_more pool limits.size h bs k.told b e refl refl same (told_new pool limits.size h v from p none of_pool blank))
+      (told_more pool limits.size h bs k.told b e refl refl same (told_new pool limits.size h v from p none of_pool blank fits))
       (sound_pushed limits.size h e k.sound (ap not (no_any v (is_release_of v) (λ x n. (leaves_alone limits.size v x n).release) h none)) refl refl (λ j. refl) (λ j. refl))
       (omega arith) (omega arith) (omega arith) (ap length same ∙ k.room.counted) (omega arith)
       (numbered_pushed limits.hands (limits.hands + 1) l.items (record { hand = limits.hands; what = e }) k.numbered (eq-eqb limits.hands limits.hands refl) refl)
 
   pub kept_attached : (id n from : ℕ) (p : SeenPages) → suc (length bs) ≡ id → n ≡ length (contents p) → pages_pool p ≡ pool → contents p ≡ replicate (length (contents p)) (replicate limits.size 0)
-      → used_room (events l.items) + 3 ≤ limits.room → length bs < limits.ids
+      → n ≤ 4294967295 → used_room (events l.items) + 3 ≤ limits.room → length bs < limits.ids
       → IsKept limits pool (record l { items = l.items ++ record { hand = limits.hands; what = Attach id n from } ∷ [] }) moves left (bs ++ record { page_count = n; from = from; pages = Some p; closer = None; pins = 0 } ∷ [])
-  kept_attached id n from p named is of_pool blank room few =
+  kept_attached id n from p named is of_pool blank fits room few =
       subst (λ v. IsKept limits pool (record l { items = l.items ++ record { hand = limits.hands; what = Attach v n from } ∷ [] }) moves left (bs ++ record { page_count = n; from = from; pages = Some p; closer = None; pins = 0 } ∷ [])) named
       (subst (λ m. IsKept limits pool (record l { items = l.items ++ record { hand = limits.hands; what = Attach (suc (length bs)) m from } ∷ [] }) moves left (bs ++ record { page_count = m; from = from; pages = Some p; closer = None; pins = 0 } ∷ [])) (sym is)
-      (attached_here from p of_pool blank room few))
+      (attached_here from p of_pool blank (subst (λ m. m ≤ 4294967295) is fits) room few))

@@ -1,12 +1,14 @@
 -- A buffer that was attached has a place.
 use Rattle.std.proofs.Common.{◌≡◌, ◌≢◌, inl, inr, ℕ, suc, ◌-◌, ◌≤◌, ◌==◌, false, List, filter_map, length, None, ap, subst, arith}
+use Rattle.std.specs.Prelude.{slice_get}
+use Rattle.std.specs.Option.{option_map_or}
 use Rattle.std.specs.List.{list_any}
 use Rattle.std.proofs.lemmas.Bool.Decides.{leb_tells}
 use Rattle.atomic_table.specs.Seated.{TableId}
 use Rattle.host_model.specs.declared.memory.MemEvent.{MemEvent}
 use Rattle.host_model.specs.Releases.{buffer_of}
 use Rattle.host_memory.specs.declared.buffer.Buffer.{Buffer}
-use Rattle.host_memory.specs.Held.{attachment_by, attachment_of}
+use Rattle.host_memory.specs.Held.{Attachment, attachment_by, attachment_of, page_count_of}
 use Rattle.host_memory.specs.Kept.{AreTold, IsToldBy}
 use Rattle.host_memory.proofs.Absent.{absent_attachment}
 use Rattle.host_memory.proofs.Replacing.{slice_get_some}
@@ -32,4 +34,21 @@ module _ (pool : TableId × ℕ) (size : ℕ) (h : List MemEvent) (bs : List Buf
       | inr q ↦ never_attached (t.fresh id q.1)
     ]
     | inr p ↦ never_attached (let low = p.1 in let z : 0 ≡ id = omega arith in subst (λ v. list_any (λ e. buffer_of e == v) h ≡ false) z t.never)
+  ]
+
+  unattached_few : attachment_of id h ≡ None → page_count_of id h ≤ 4294967295
+  unattached_few none = let same : page_count_of id h ≡ 0 = ap (λ o. option_map_or (λ (a : Attachment). a.pages) o 0) none in omega arith
+
+  -- a buffer's pages have numbers of 32 bits
+  pub few_pages : page_count_of id h ≤ 4294967295
+  few_pages = elim (leb_tells 1 id) as (λ _. page_count_of id h ≤ 4294967295) [
+    | inl p ↦ elim (leb_tells id (length bs)) as (λ _. page_count_of id h ≤ 4294967295) [
+      | inl q ↦ (let low = p.1 in let high = q.1 in let found = slice_get_some bs (id - 1) (omega arith) in
+          let named : suc (id - 1) ≡ id = omega arith in
+          let told : IsToldBy pool size h id found.0 = subst (λ v. IsToldBy pool size h v found.0) named (t.each (id - 1) found.0 found.1) in
+          let same : page_count_of id h ≡ found.0.page_count = ap (λ l. option_map_or (λ (a : Attachment). a.pages) (slice_get l 0) 0) told.attached in
+          let few = told.few in omega arith)
+      | inr q ↦ unattached_few (absent_attachment id h (t.fresh id q.1))
+    ]
+    | inr p ↦ unattached_few (absent_attachment id h (let low = p.1 in let z : 0 ≡ id = omega arith in subst (λ v. list_any (λ e. buffer_of e == v) h ≡ false) z t.never))
   ]

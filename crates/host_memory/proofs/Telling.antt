@@ -66,6 +66,7 @@ module _ (pool : TableId × ℕ) (size : ℕ) (h : List MemEvent) (v : ℕ) (b :
     unpinned = λ r. t.unpinned (sym same ∙ r);
     bytes = λ k lt. t.bytes k lt ∙ sym (page_same size h v k e (a.put k));
     long = t.long;
+    few = t.few;
   }
 
   fill_step : (block cnt byte k : ℕ) (t : Bool) → put_by size v k (Fill v block cnt byte) ≡ then_some t (replicate size byte) → (old : List ℕ) → length old ≡ size → old ≡ page_at size h v k
@@ -91,6 +92,7 @@ module _ (pool : TableId × ℕ) (size : ℕ) (h : List MemEvent) (v : ℕ) (b :
         unpinned = λ r. t.unpinned (sym (any_skip (is_release_of v) h e refl) ∙ r);
         bytes = λ k lt. (let l : k < length (contents_held b.pages) = omega arith in f k ∙ fill_step block cnt byte k (is_among block cnt k) (put k) (page_held b.pages k) (t.long k l) (t.bytes k l));
         long = λ k lt. (let l : k < length (contents_held b.pages) = omega arith in ap length (f k) ∙ filled_long byte (is_among block cnt k) (page_held b.pages k) (t.long k l));
+        few = t.few;
       }
 
   land_step : (index j block k : ℕ) (ws : List ℕ) (cs : List (List ℕ)) → block < length cs → (t : ((block == k) ≡ true) × (block ≡ k) ⊎ ((block == k) ≡ false) × (block ≢ k)) → get_or cs k [] ≡ page_at size h v k
@@ -121,6 +123,7 @@ module _ (pool : TableId × ℕ) (size : ℕ) (h : List MemEvent) (v : ℕ) (b :
         unpinned = λ r. t.unpinned (sym (any_skip (is_release_of v) h e refl) ∙ r);
         bytes = λ k l. (let m : k < length (contents_held b.pages) = omega arith in ap (λ c. get_or c k []) f ∙ land_step index j block k ws (contents_held b.pages) lt (eqb_tells block k) (t.bytes k m));
         long = λ k l. (let m : k < length (contents_held b.pages) = omega arith in ap (λ c. length (get_or c k [])) f ∙ landed_long block k ws (contents_held b.pages) lt ws_long (eqb_tells block k) (t.long k m));
+        few = t.few;
       }
 
   -- a pin came or went
@@ -133,6 +136,7 @@ module _ (pool : TableId × ℕ) (size : ℕ) (h : List MemEvent) (v : ℕ) (b :
     unpinned = λ r. u (sym same ∙ r);
     bytes = λ k lt. t.bytes k lt ∙ sym (page_same size h v k e (a.put k));
     long = t.long;
+    few = t.few;
   }
 
   -- the buffer was closed
@@ -145,6 +149,7 @@ module _ (pool : TableId × ℕ) (size : ℕ) (h : List MemEvent) (v : ℕ) (b :
     unpinned = λ r. t.unpinned (sym same ∙ r);
     bytes = λ k lt. t.bytes k lt ∙ sym (page_same size h v k e refl);
     long = t.long;
+    few = t.few;
   }
 
   -- the buffer's pages left
@@ -157,6 +162,7 @@ module _ (pool : TableId × ℕ) (size : ℕ) (h : List MemEvent) (v : ℕ) (b :
     unpinned = λ r. sym t.pinned ∙ free;
     bytes = λ k lt. absurd (omega arith);
     long = λ k lt. absurd (omega arith);
+    few = t.few;
   }
 
 or_parts : (a b : Bool) → (a || b) ≡ false → (a ≡ false) × (b ≡ false)

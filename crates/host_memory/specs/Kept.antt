@@ -32,6 +32,7 @@ pub record IsToldBy (pool : TableId × ℕ) (size : ℕ) (h : List MemEvent) (v 
   pub unpinned : is_released v h ≡ true → b.pins ≡ 0
   pub bytes : (k : ℕ) → k < length (contents_held b.pages) → page_held b.pages k ≡ page_at size h v k
   pub long : (k : ℕ) → k < length (contents_held b.pages) → length (page_held b.pages k) ≡ size
+  pub few : b.page_count ≤ 4294967295
 
 -- how many entries a buffer may still have, for its close and its release
 abbrev pub close_owed : Option ℕ → ℕ

@@ -4,7 +4,7 @@ ghost use Rattle.std.specs.List.{list_all};
 ghost use Rattle.host_frames.specs.Seats.{page_size, pool_id};
 ghost use Rattle.host_memory.specs.Entries.{given_count};
 ghost use Rattle.host_model.specs.Lists.{count};
-ghost use Rattle.host_memory.specs.Held.{attachment_by};
+ghost use Rattle.host_memory.specs.Held.{attachment_by, page_count_of};
 ghost use Rattle.host_memory.specs.Numbers.{is_by_its_hand, is_numbered};
 ghost use Rattle.host_memory.specs.Pins.{is_pin_for, pins_left};
 ghost use Rattle.host_memory.specs.State.{admissions_of, client_of, history};
@@ -124,6 +124,7 @@ impl Memory {
         ensures attached { (v : ℕ) → length (filter_map (attachment_by v) (history self.now)) ≤ 1 }
         ensures one_pin { (i : ℕ) → count (is_pin_for i) (history self.now) ≤ 1 }
         ensures done { IsTrue (list_all (is_by_its_hand (history self.now)) self.now.entries) }
+        ensures pages { (v : ℕ) → page_count_of v (history self.now) ≤ 4294967295 }
     {
         let _ = &self.limits;
     }

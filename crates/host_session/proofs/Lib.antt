@@ -1,6 +1,7 @@
 pub mod Blocks
 pub mod Clients
 pub mod Counting
+pub mod Crossing
 pub mod Course
 pub mod Dropping
 pub mod Ended

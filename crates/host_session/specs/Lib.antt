@@ -5,7 +5,9 @@ pub mod ClientFields
 pub mod Closing
 pub mod Counting
 pub mod Endings
+pub mod Handed
 pub mod Kept
+pub mod Moves
 pub mod Opened
 pub mod Plan
 pub mod Told

@@ -18,7 +18,7 @@ invariant_of-self c = let m = c.self.inside in let pool = pool_id m.pool.value i
     let blank = subst (λ (s : MemoryState). contents ps ≡ replicate (length (contents ps)) (replicate (size_of s) 0)) (sym c.self.view_is) c.requires.blank in
     let few : length m.buffers.items < m.limits.ids = (let given = c.self.invariant.0.told.given in omega arith) in
     let id : suc (length m.buffers.items) ≡ c.len.result + 1 = (let e = c.len.ensures in let ok = m.buffers.ok.0 in omega arith) in
-    let kept = kept_attached m.limits pool m.entries m.moves m.pins m.buffers.items c.self.invariant.0 (c.len.result + 1) n c.args.from ps id c.len-page_count.ensures of_pool blank room few in (
+    let kept = kept_attached m.limits pool m.entries m.moves m.pins m.buffers.items c.self.invariant.0 (c.len.result + 1) n c.args.from ps id c.len-page_count.ensures of_pool blank (let fits : n < 4294967296 = c.len-page_count.type_inv in omega arith) room few in (
       subst (λ (z : WithRoom MemEntry). IsKept m.limits pool z m.moves m.pins c.push_reserved.new.self.items) (sym c.push.ensures)
           (subst (λ (bs : List Buffer). IsKept m.limits pool (record m.entries { items = m.entries.items ++ record { hand = m.limits.hands; what = Attach (c.len.result + 1) n c.args.from } ∷ [] }) m.moves m.pins bs) (sym c.push_reserved.ensures.items) kept),
       (let same = c.push_reserved.ensures.capacity in let was = c.self.invariant.1 in omega arith),

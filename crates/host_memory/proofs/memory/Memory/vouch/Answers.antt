@@ -2,11 +2,11 @@ use Rattle.std.proofs.Common.{◌≡◌, ◌≤◌, filter_map, length, true, su
 use Rattle.std.specs.List.{list_all}
 use Rattle.host_frames.specs.Seats.{pool_id}
 use Rattle.host_model.specs.Lists.{count}
-use Rattle.host_memory.specs.Held.{attachment_by}
+use Rattle.host_memory.specs.Held.{attachment_by, page_count_of}
 use Rattle.host_memory.specs.Numbers.{is_by_its_hand, is_numbered}
 use Rattle.host_memory.specs.Pins.{is_pin_for}
 use Rattle.host_memory.specs.State.{MemoryState, admissions_of, client_of, events, history}
-use Rattle.host_memory.proofs.Present.{attached_once}
+use Rattle.host_memory.proofs.Present.{attached_once, few_pages}
 use Rattle.host_memory.proofs.memory.Memory.vouch.Goals as goal
 
 pub returns-clause-numbers : goal.returns-clause-numbers
@@ -21,3 +21,7 @@ returns-clause-one_pin c = (λ i. subst (λ (s : MemoryState). count (is_pin_for
 
 pub returns-clause-done : goal.returns-clause-done
 returns-clause-done c = subst (λ (s : MemoryState). list_all (is_by_its_hand (history s)) s.entries ≡ true) c.self.view_is c.self.invariant.0.numbered.hands
+
+pub returns-clause-pages : goal.returns-clause-pages
+returns-clause-pages c = let m = c.self.inside in
+    (λ v. subst (λ (s : MemoryState). page_count_of v (history s) ≤ 4294967295) c.self.view_is (few_pages (pool_id m.pool.value) m.limits.size (events m.entries.items) m.buffers.items c.self.invariant.0.told v))

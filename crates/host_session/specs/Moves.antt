@@ -1,16 +1,19 @@
--- What the steps of a record leave with its buffer.
-use Rattle.std.specs.Prelude.{ℕ, not, List, [], ◌∷◌, ◌++◌, map, length, filter, Option, Some, None}
+-- What a hand does to the buffer of a record that it carries out, by the steps that it made for it.
+use Rattle.std.specs.Prelude.{ℕ, not, List, [], ◌∷◌, ◌++◌, map, length, filter, filter_map, Option, Some}
 use Rattle.host_record.specs.declared.opcode.Opcode.{Opcode}
 use Rattle.host_record.specs.declared.opcode.Opcode.TheVariants.{Read, Write}
 use Rattle.host_record.specs.declared.request.Request.{Request}
 use Rattle.host_record.specs.declared.status.Status.{Status}
 use Rattle.host_record.specs.Command.{opcode}
+use Rattle.host_model.specs.declared.memory.MemEntry.{MemEntry}
 use Rattle.host_model.specs.declared.memory.MemEvent.{MemEvent}
 use Rattle.host_model.specs.declared.memory.MemEvent.TheVariants.{Done}
 use Rattle.host_model.specs.declared.step.Step.{Step}
 use Rattle.host_model.specs.declared.verdict.Verdict.{Verdict}
 use Rattle.host_model.specs.declared.verdict.Verdict.TheVariants.{Accepted, Refused}
-use Rattle.host_model.specs.RecordEntries.{lift_for, land_for, spare}
+use Rattle.host_model.specs.RecordEntries.{entry_of, land_for, lift_for, spare}
+use Rattle.host_memory.specs.State.{events}
+use Rattle.host_turn.specs.History.{entries_of}
 
 -- the lifts of a write's steps
 abbrev pub lifts_of : ℕ → Request → List Step → List MemEvent
@@ -32,3 +35,7 @@ moves_by _ status i r steps own = []
 abbrev pub moves_owed : Verdict → Status → ℕ → Request → List Step → List MemEvent → List MemEvent
 moves_owed Accepted status i r steps own = moves_by (opcode r) status i r steps own
 moves_owed (Refused _) status i r steps own = []
+
+-- what hand n did to the buffers for record i
+abbrev pub moves_for : ℕ → ℕ → List MemEntry → List MemEvent
+moves_for n i h = filter_map (entry_of i) (events (entries_of (λ e. e.hand) n h))

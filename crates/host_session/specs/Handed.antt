@@ -1,4 +1,4 @@
--- The answers that a hand handed on, as the intake's history tells them.
+-- The answers that the hands of a session handed on to its client, as its intake's history tells them.
 use Rattle.std.specs.Prelude.{ℕ, false, ◌==◌, if◌then◌else◌, List, slice_get, Option, None}
 use Rattle.host_model.specs.Lists.{map_with_before}
 use Rattle.host_rings.specs.declared.slip.Slip.{Slip}
@@ -17,5 +17,5 @@ abbrev pub slip_by : ℕ → List IntakeEntry → IntakeEntry → Option Slip
 slip_by n before e = if maker_of e == n then slip_in before e else None
 
 -- the answers that hand n handed on, in order
-abbrev pub handed_on : ℕ → List IntakeEntry → List Slip
-handed_on n es = map_with_before (slip_by n) es
+abbrev pub handed_by : ℕ → List IntakeEntry → List Slip
+handed_by n es = map_with_before (slip_by n) es
