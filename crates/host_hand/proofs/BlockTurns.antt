@@ -149,9 +149,6 @@ refused_before e op k ask run front old new s is le g = record {
   front = let f = is.1 in omega arith;
 }
 
-pub nothing_before : (e : Errand) (op : Op) (k : ℕ) (ask : Ask) (run : Run) (front : ℕ) (h : List MemEntry) (s : List Step) → (run.answer ≡ Err Oom) × (run.front ≡ front) → front ≤ length s → HasRun e op k (ask ∷ []) run h h s s
-nothing_before e op k ask run front h s is le = refused_before e op k ask run front h h s is le (grown_refl (λ (x : MemEntry). x.hand) e.hand e.memory_front (length h) h)
-
 module _ (e : Errand) (k : ℕ) (run : Run) (s u : List Step) (front : run.front ≡ length u) where
   pub written_before : (piece bytes : List ℕ) (old new : List MemEntry) → bytes ≡ piece → HasGrown (λ (x : MemEntry). x.hand) e.hand e.memory_front (length new) (under e.hand (lift_for e.index e.request k piece ∷ [])) old new
       → HasGrown (λ (y : Step). y.hand) e.hand e.device_front run.front (entries_added run.answer (entry_of e.hand e.session e.index k Write (e.part.first + e.request.dev_offset + k) bytes)) s u → HasRun e Write k (ask_at e Write k ∷ []) run old new s u

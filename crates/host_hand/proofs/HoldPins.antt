@@ -1,6 +1,6 @@
 -- A buffer that a record has pinned is still pinned, whatever others add to the history.
-use Rattle.std.proofs.Common.{◌≡◌, ℕ, ◌+◌, ◌≤◌, ◌==◌, Bool, true, false, not, ◌||◌, ◌&&◌, cond, List, [], ◌∷◌, ◌++◌, length, map, filter, filter_map, Option, Some, None, refl, sym, ap, ap₂, subst, ◌∙◌, arith, eq-eqb}
-use Rattle.std.specs.Prelude.{nat_lt, slice_get}
+use Rattle.std.proofs.Common.{◌≡◌, ℕ, ◌+◌, ◌≤◌, ◌==◌, Bool, true, false, not, ◌||◌, ◌&&◌, cond, List, [], ◌∷◌, ◌++◌, length, map, filter, filter_map, Option, Some, None, refl, sym, ap, ap₂, subst, ◌∙◌, arith, eq-eqb, ltb-true}
+use Rattle.std.specs.Prelude.{◌<◌, nat_lt, slice_get}
 use Rattle.std.specs.List.{All, list_all, list_any}
 use Rattle.std.specs.Option.{option_map_or}
 use Rattle.std.proofs.lemmas.Bool.{and_parts, eqb-true, or_left, or_parts}
@@ -11,7 +11,7 @@ use Rattle.host_model.specs.declared.memory.MemEntry.{MemEntry}
 use Rattle.host_model.specs.declared.memory.MemEvent.{MemEvent}
 use Rattle.host_model.specs.declared.memory.MemEvent.TheVariants.{Pin, Done}
 use Rattle.host_model.specs.Lists.{count}
-use Rattle.host_memory.specs.Held.{Attachment, attachment_by, is_block_of}
+use Rattle.host_memory.specs.Held.{Attachment, attachment_by, attachment_of, is_block_of, page_count_of}
 use Rattle.host_memory.specs.Numbers.{is_by_its_hand, is_hand_of}
 use Rattle.host_memory.specs.Pins.{is_done_for, is_left, is_pin_by, is_pin_for, is_pinned_by, pins_left}
 use Rattle.host_memory.specs.State.{events}
@@ -109,6 +109,17 @@ pub pinned_now : (e : Errand) (h : List MemEntry) → count (is_pin_for e.index)
 pinned_now e h one all k =
     let none = none_done (events h) e.hand e.index e.request.vmoid one k.pinned h all k.undone in
     any_kept (is_pin_by e.hand e.index e.request.vmoid) (is_left (events h)) (left_pin (events h) e.hand e.index e.request.vmoid none) (events h) k.pinned
+
+-- ---- the numbers of its pages
+
+below_count : (o : Option Attachment) (b : ℕ) → option_map_or (λ (a : Attachment). nat_lt b a.pages) o false ≡ true → b < option_map_or (λ (a : Attachment). a.pages) o 0
+below_count None b is = absurd (cc is)
+below_count (Some a) b is = ltb-true b a.pages is
+
+-- a page of a record that holds its buffer has a number of 32 bits
+pub page_fits : (e : Errand) (h : List MemEntry) (k : ℕ) → page_count_of e.request.vmoid (events h) ≤ 4294967295 → IsHeld e h → k < e.request.length → e.request.vmo_offset + k < 4294967296
+page_fits e h k few held lt =
+    let below : e.request.vmo_offset + k < page_count_of e.request.vmoid (events h) = below_count (attachment_of e.request.vmoid (events h)) (e.request.vmo_offset + k) (held.blocks k lt) in omega arith
 
 -- ---- as the history grows
 

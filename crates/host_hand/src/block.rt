@@ -152,11 +152,9 @@ fn read_block<D: Disk, R: Wait>(
     ensures run { HasRun errand.now Read k (ask_at errand.now Read k ∷ []) result (seen_by memory_seat.old) (seen_by memory_seat.new) (seen_by device_seat.old) (seen_by device_seat.new) }
     ensures front { front ≤ result.front }
 {
-    let Some(page) = errand.page(k) else {
-        return Run::refused(front);
-    };
     let mut memory = book.enter_past(rt, memory_seat, errand.memory_front);
     memory.vouch();
+    let page = errand.page(k);
     let run = read_in_turn(
         rt,
         alloc,
@@ -244,10 +242,7 @@ fn write_block<D: Disk, R: Wait>(
     ensures run { HasRun errand.now Write k (ask_at errand.now Write k ∷ []) result (seen_by memory_seat.old) (seen_by memory_seat.new) (seen_by device_seat.old) (seen_by device_seat.new) }
     ensures front { front ≤ result.front }
 {
-    let Some(page) = errand.page(k) else {
-        return Run::refused(front);
-    };
-    let Ok(mut piece) = lift_page(rt, alloc, book, memory_seat, errand, k, page) else {
+    let Ok(mut piece) = lift_page(rt, alloc, book, memory_seat, errand, k) else {
         return Run::refused(front);
     };
     step_at(
@@ -270,11 +265,10 @@ fn lift_page<R: Wait>(
     seat: &mut BookSeat<Memory>,
     errand: &Errand,
     k: u32,
-    page: u32,
 ) -> Result<Bytes, Oom>
     requires buffers { IsAtBuffers (book_id book.now) errand.now.hand errand.now.size seat.old }
     requires held { IsHeld errand.now (seen_by seat.old) }
-    requires page { (k < errand.now.request.length) × (page ≡ errand.now.request.vmo_offset + k) }
+    requires block { k < errand.now.request.length }
     ensures seat { IsSameSeat seat.old seat.new × IsOutside seat.new }
     ensures held { IsHeld errand.now (seen_by seat.new) }
     ensures lifted { IfOk result (λ piece. (length piece ≡ errand.now.size) × HasGrown (λ e. e.hand) errand.now.hand errand.now.memory_front (length (seen_by seat.new)) (under errand.now.hand (lift_for errand.now.index errand.now.request k piece ∷ [])) (seen_by seat.old) (seen_by seat.new)) }
@@ -282,6 +276,7 @@ fn lift_page<R: Wait>(
 {
     let mut memory = book.enter_past(rt, seat, errand.memory_front);
     memory.vouch();
+    let page = errand.page(k);
     let piece = lift(alloc, &mut memory, errand, k, page);
     book.leave(seat, memory);
     piece

@@ -1,5 +1,5 @@
 // A record that a hand is to carry out.
-ghost use Rattle.std.specs.Prelude.{◌≡◌, ◌+◌, ◌<◌, ◌^◌, IfSome};
+ghost use Rattle.std.specs.Prelude.{◌≡◌, ◌+◌, ◌<◌, ◌^◌};
 ghost use Rattle.host_hand.specs.Errands.{errand_of};
 
 use host_block::{BlockSize, Range};
@@ -45,14 +45,10 @@ impl Errand {
     }
 
     // The page of its buffer for step k. Pages have numbers of 32 bits.
-    pub(crate) fn page(&self, k: u32) -> Option<u32>
-        ensures { IfSome result (λ page. page ≡ self.now.request.vmo_offset + k) }
+    pub(crate) fn page(&self, k: u32) -> u32
+        requires { self.now.request.vmo_offset + k < 4294967296 }
+        ensures { result ≡ self.now.request.vmo_offset + k }
     {
-        let page = self.request.vmo_offset.checked_add(k as u64)?;
-        if page <= u32::MAX as u64 {
-            Some(page as u32)
-        } else {
-            None
-        }
+        self.request.vmo_offset as u32 + k
     }
 }

@@ -4,12 +4,16 @@ use Rattle.host_memory.specs.Held.{is_block_of}
 use Rattle.host_memory.specs.State.{history}
 use Rattle.host_turn.specs.Seats.{number, seen_by}
 use Rattle.host_hand.specs.Errands.{ask_at}
-use Rattle.host_hand.proofs.BlockTurns.{left_turn, nothing_before, run_held}
-use Rattle.host_hand.proofs.HoldPins.{entered_as, held_still, pinned_now}
+use Rattle.host_hand.proofs.BlockTurns.{left_turn, run_held}
+use Rattle.host_hand.proofs.HoldPins.{entered_as, held_still, page_fits, pinned_now}
 use Rattle.host_hand.proofs.block.read_block.Goals as goal
 
-pub returns-in_default-clause-run : goal.returns-in_default-clause-run
-returns-in_default-clause-run g c = nothing_before c.args.errand.now Read c.args.k (ask_at c.args.errand.now Read c.args.k) c.refused.result c.args.front (seen_by c.args.memory_seat.now) (seen_by c.args.device_seat.now) c.refused.ensures c.requires.front
+pub page-page-requires : goal.page-page-requires
+page-page-requires g c =
+    let e = c.enter_past-memory.ensures in
+    let m = c.enter_past-memory.result in
+    let later = entered_as c.args.errand.now.hand (number c.args.memory_seat.now) (seen_by c.args.memory_seat.now) (seen_by c.enter_past-memory.new.seat) m.entries c.requires.buffers.number_is (sym e.story) e.later in
+    page_fits c.args.errand.now m.entries c.args.k (c.vouch.ensures.pages c.args.errand.now.request.vmoid) (held_still c.args.errand.now (seen_by c.args.memory_seat.now) m.entries later c.requires.held) c.requires.block.1
 
 pub read_in_turn-run-requires-clause-pinned : goal.read_in_turn-run-requires-clause-pinned
 read_in_turn-run-requires-clause-pinned g c =
@@ -24,7 +28,7 @@ read_in_turn-run-requires-clause-page g c =
     let m = c.enter_past-memory.result in
     let later = entered_as c.args.errand.now.hand (number c.args.memory_seat.now) (seen_by c.args.memory_seat.now) (seen_by c.enter_past-memory.new.seat) m.entries c.requires.buffers.number_is (sym e.story) e.later in
     let held = held_still c.args.errand.now (seen_by c.args.memory_seat.now) m.entries later c.requires.held in
-    (ap (is_block_of c.args.errand.now.request.vmoid (history m)) c.in-Some.ensures ∙ held.blocks c.args.k c.requires.block.1, c.in-Some.ensures)
+    (ap (is_block_of c.args.errand.now.request.vmoid (history m)) c.page-page.ensures ∙ held.blocks c.args.k c.requires.block.1, c.page-page.ensures)
 
 pub returns-clause-held : goal.returns-clause-held
 returns-clause-held g c =

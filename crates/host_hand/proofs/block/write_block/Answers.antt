@@ -2,18 +2,13 @@ use Rattle.std.proofs.Common.{◌≡◌, ◌∷◌, [], ℕ, List, length, refl,
 use Rattle.host_block.specs.declared.op.Op.TheVariants.{Write}
 use Rattle.host_turn.specs.Seats.{seen_by}
 use Rattle.host_hand.specs.Errands.{ask_at}
-use Rattle.host_hand.proofs.BlockTurns.{nothing_before, on_block, refused_before, written_before}
+use Rattle.host_hand.proofs.BlockTurns.{on_block, refused_before, written_before}
 use Rattle.host_hand.proofs.block.write_block.Goals as goal
 
 pub returns-in_default-clause-run : goal.returns-in_default-clause-run
 returns-in_default-clause-run g c =
     let e = c.args.errand.now in
-    nothing_before e Write c.args.k (ask_at e Write c.args.k) c.refused.result c.args.front (seen_by c.args.memory_seat.now) (seen_by c.args.device_seat.now) c.refused.ensures c.requires.front
-
-pub returns-in_default-lift_page-clause-run : goal.returns-in_default-lift_page-clause-run
-returns-in_default-lift_page-clause-run g c =
-    let e = c.args.errand.now in
-    refused_before e Write c.args.k (ask_at e Write c.args.k) c.refused-in_default-lift_page.result c.args.front (seen_by c.args.memory_seat.now) (seen_by c.lift_page.new.seat) (seen_by c.args.device_seat.now) c.refused-in_default-lift_page.ensures c.requires.front c.in_default-lift_page.ensures.refused
+    refused_before e Write c.args.k (ask_at e Write c.args.k) c.refused.result c.args.front (seen_by c.args.memory_seat.now) (seen_by c.lift_page.new.seat) (seen_by c.args.device_seat.now) c.refused.ensures c.requires.front c.in_default.ensures.refused
 
 pub returns-clause-run : goal.returns-clause-run
 returns-clause-run g c =
