@@ -39,7 +39,7 @@ told_empty : (client size : ℕ) → IsTold client size [] []
 told_empty client size = record { entries = refl; ids = refl; shows = refl; found = refl; own = refl }
 
 ended_empty : (client : ℕ) → IsEndedSoFar client None false [] [] []
-ended_empty client = record { first = λ e. refl; turned = refl; logged = refl; last = λ e. absurd (cc e); drained = λ e f. absurd (cc e); own = refl; running = λ e. refl; over = λ e. absurd (cc e) }
+ended_empty client = record { first = λ e. refl; turned = refl; logged = refl; last = λ e. absurd (cc e); drained = λ e f. absurd (cc f); own = refl; running = λ e. refl; over = λ e. absurd (cc e) }
 
 log_empty : (spec : SessionSpec) → IsLog spec []
 log_empty spec = record { numbered = refl; ids = refl; records = omega arith; given = omega arith; room = omega arith }
