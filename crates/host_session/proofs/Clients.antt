@@ -1,5 +1,5 @@
 -- What is true of a client end stays true by each call that doesn't visit the buffers.
-use Rattle.std.proofs.Common.{◌≡◌, ℕ, suc, ◌+◌, ◌-◌, ◌≤◌, ◌<◌, Bool, true, false, not, ◌||◌, cond, IsTrue, List, [], ◌∷◌, ◌++◌, length, filter, map, max, Option, Some, None, refl, sym, ap, subst, ◌∙◌, arith, length-append}
+use Rattle.std.proofs.Common.{◌≡◌, ℕ, ◌+◌, ◌≤◌, ◌<◌, Bool, true, false, not, ◌||◌, cond, IsTrue, List, [], ◌∷◌, ◌++◌, length, filter, Option, Some, None, refl, sym, ap, ◌∙◌, arith, length-append}
 use Rattle.std.specs.List.{list_any}
 use Rattle.host_intake.specs.declared.entry.IntakeEntry.{IntakeEntry}
 use Rattle.host_model.specs.declared.event.AttachError.{AttachError}
@@ -8,7 +8,7 @@ use Rattle.host_model.specs.declared.event.Event.TheVariants.{NotAttached, Sent,
 use Rattle.host_model.specs.declared.memory.MemEntry.{MemEntry}
 use Rattle.host_model.specs.Groups.{owed}
 use Rattle.host_model.specs.Lists.{count}
-use Rattle.host_model.specs.Log.{received, received_bytes, requests, sent, sent_bytes}
+use Rattle.host_model.specs.Log.{received, received_bytes, sent, sent_bytes}
 use Rattle.host_model.specs.Taking.{is_end, runs_out_rightly}
 use Rattle.host_record.specs.declared.finish.Finish.{Finish}
 use Rattle.host_record.specs.declared.finish.Finish.TheVariants.{Drain, Abort}
@@ -18,9 +18,9 @@ use Rattle.host_turn.specs.Seats.{seen_by}
 use Rattle.host_session.specs.declared.fronts.Fronts.{Fronts}
 use Rattle.host_session.specs.Acts.{Act, AreLate, is_answer, is_drain_event, is_drained, log_of, next_envelope}
 use Rattle.host_session.specs.Calls.{with_event, with_slips}
-use Rattle.host_session.specs.Client.{AreWithin, ClientState, ends_logged, greater, is_aborted, room_left, slip_fronts}
+use Rattle.host_session.specs.Client.{ClientState, greater, is_aborted, room_left, slip_fronts}
 use Rattle.host_session.specs.Endings.{IsEndedSoFar, IsOver, owed_count}
-use Rattle.host_session.specs.Kept.{HasRings, IsClient}
+use Rattle.host_session.specs.Kept.{IsClient}
 use Rattle.host_session.proofs.Course.{course_quiet, course_received, course_sent, course_thrown, within_refl}
 use Rattle.host_session.proofs.Keeping.{ended_quiet, late_still, log_quiet, log_sent, none_late, one_more_fits, told_quiet}
 use Rattle.host_session.proofs.Requests.{requests_quiet}

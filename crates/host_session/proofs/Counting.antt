@@ -1,16 +1,15 @@
 -- What counting tells of the answers received.
-use Rattle.std.proofs.Common.{◌≡◌, ℕ, zero, suc, ◌+◌, ◌≤◌, ◌<◌, Bool, true, false, cond, nat_le, nat_lt, ◌&&◌, List, [], ◌∷◌, length, filter, map, refl, sym, ap, ap₂, subst, ◌∙◌, arith, IsTrue}
-use Rattle.std.proofs.lemmas.Bool.{le-leb, eq-eqb}
-use Rattle.std.proofs.lemmas.List.{length-map}
+use Rattle.std.proofs.Common.{◌≡◌, ℕ, suc, ◌≤◌, Bool, true, false, cond, nat_le, List, [], ◌∷◌, length, filter, map, refl, sym, ap, ◌∙◌, arith}
+use Rattle.std.proofs.lemmas.Bool.{le-leb}
 use Rattle.std.proofs.lemmas.Slice.Eq.{bytes_eq-Decides}
 use Rattle.std.specs.Str.{bytes_eq}
 use Rattle.host_model.specs.declared.event.Event.{Event}
 use Rattle.host_model.specs.declared.row.TakenRow.{TakenRow}
 use Rattle.host_model.specs.Answers.{answer_bytes, due}
-use Rattle.host_model.specs.Lists.{count, same_counts, within_counts}
+use Rattle.host_model.specs.Lists.{count, within_counts}
 use Rattle.host_model.specs.Log.{received, requests}
 use Rattle.host_model.proofs.ListTests.{all_pass, and-from}
-use Rattle.host_session.specs.Counting.{AreAnswered, AreCounted, CountingTells, due_records, times}
+use Rattle.host_session.specs.Counting.{AreAnswered, AreCounted, CountingTells, due_records}
 use Rattle.host_session.proofs.Times.{StandsOnce, as_many_pass, fewer_pass, found_again, no_more}
 
 same_bytes : (x : List ℕ) → bytes_eq x x ≡ true

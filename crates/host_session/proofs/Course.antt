@@ -1,5 +1,5 @@
 -- The course of a client end, once one event was added.
-use Rattle.std.proofs.Common.{◌≡◌, ℕ, zero, suc, ◌+◌, ◌-◌, ◌≤◌, ◌<◌, Bool, true, false, ◌==◌, ◌&&◌, cond, IsTrue, List, [], ◌∷◌, ◌++◌, length, take, filter, map, filter_map, Option, Some, None, refl, sym, ap, ap₂, subst, ◌∙◌, arith, length-append, append_assoc}
+use Rattle.std.proofs.Common.{◌≡◌, ℕ, Bool, true, false, ◌==◌, cond, IsTrue, List, [], ◌∷◌, ◌++◌, length, take, filter, map, Option, Some, None, refl, sym, ap, ap₂, subst, ◌∙◌, arith, length-append, append_assoc}
 use Rattle.std.specs.List.{list_all, last_or}
 use Rattle.std.specs.Option.{unwrap_or}
 use Rattle.std.proofs.lemmas.List.{length-map, map-append, take-append-le}
@@ -20,7 +20,7 @@ use Rattle.host_rings.specs.declared.envelope.Envelope.{Envelope}
 use Rattle.host_rings.specs.declared.slip.Slip.{Slip}
 use Rattle.host_turn.specs.History.{entries_of}
 use Rattle.host_session.specs.declared.fronts.Fronts.{Fronts}
-use Rattle.host_session.specs.Acts.{Act, FoundNone, IsAct, IsCourse, IsEventAfter, IsPart, envelopes_of, entry_place, fronts_after, is_answer, log_of, next_envelope, slips_of}
+use Rattle.host_session.specs.Acts.{Act, FoundNone, IsAct, IsCourse, IsEventAfter, IsPart, envelopes_of, entry_place, fronts_after, is_answer, next_envelope, slips_of}
 use Rattle.host_session.specs.Client.{AreWithin, no_fronts, slip_fronts}
 use Rattle.host_session.proofs.Snoc.{below_more, each_more, filter_one, filter_rest, found_none, found_one, places_one, places_rest}
 

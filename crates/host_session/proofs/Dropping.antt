@@ -1,5 +1,5 @@
 -- The buffers that hold pages are released one by one.
-use Rattle.std.proofs.Common.{◌≡◌, ℕ, zero, suc, ◌+◌, ◌≤◌, ◌<◌, ◌==◌, Bool, true, false, not, ◌&&◌, ◌||◌, cond, IsTrue, MatchBool, MatchOption, List, [], ◌∷◌, ◌++◌, length, map, filter, filter_map, Option, Some, None, nat_eq, refl, sym, ap, ap₂, subst, ◌∙◌, arith, length-append, append_assoc, append-nil}
+use Rattle.std.proofs.Common.{◌≡◌, ℕ, ◌+◌, ◌≤◌, ◌<◌, ◌==◌, Bool, true, false, not, ◌||◌, cond, IsTrue, MatchBool, MatchOption, List, [], ◌∷◌, ◌++◌, length, filter, filter_map, Option, Some, None, refl, sym, ap, subst, ◌∙◌, arith, append_assoc, append-nil}
 use Rattle.std.specs.List.{All, list_all, list_any, range_with_len, slice_get}
 use Rattle.std.specs.Option.{option_map_or, unwrap_or}
 use Rattle.std.proofs.lemmas.Bool.{eq-eqb}
@@ -9,24 +9,21 @@ use Rattle.std.proofs.lemmas.List.Elements.{All-cons, All-nil, filter_map-append
 use Rattle.std.proofs.lemmas.List.Sums.{sum_by-append}
 use Rattle.atomic_table.specs.Seated.{TableId}
 use Rattle.host_frames.specs.declared.seat.PoolSeat.{PoolSeat}
-use Rattle.host_frames.specs.Seats.{SeenPages, claims, contents, given_back, granted, seat_pool}
 use Rattle.host_intake.specs.State.{MemorySeat}
 use Rattle.host_memory.specs.declared.limits.MemoryPlan.{MemoryPlan}
 use Rattle.host_memory.specs.Numbers.{is_numbered}
 use Rattle.host_memory.specs.Entries.{given_count, is_attach}
-use Rattle.host_memory.specs.Held.{attachment_by, attachment_of, first_held, holds_pages, is_released, page_count_of, pages_held}
-use Rattle.host_memory.specs.PagesHeld.{ArePagesOf}
+use Rattle.host_memory.specs.Held.{attachment_by, attachment_of, first_held, holds_pages, is_released, page_count_of}
 use Rattle.host_memory.specs.Pins.{is_done_for, is_left, pins_left}
-use Rattle.host_memory.specs.State.{MemoryState, events, history, size_of}
+use Rattle.host_memory.specs.State.{MemoryState, events, history}
 use Rattle.host_model.specs.declared.memory.MemEntry.{MemEntry}
 use Rattle.host_model.specs.declared.memory.MemEvent.{MemEvent}
 use Rattle.host_model.specs.declared.memory.MemEvent.TheVariants.{Attach, Fill, Show, Pin, Lift, Land, Done, Release}
 use Rattle.host_model.specs.declared.memory.MemEvent.TheVariants as mem
-use Rattle.host_model.specs.Lists.{count}
 use Rattle.host_model.specs.Releases.{is_release_of}
 use Rattle.host_turn.specs.History.{Adds, Continues}
 use Rattle.host_turn.specs.Seats.{IsOutside, IsSameSeat, number, seen_by}
-use Rattle.host_session.specs.Closing.{FoundPin, HasDropped, HasGivenBack, HasReleased, IsFreed, IsPinned, pages_in, releases_by}
+use Rattle.host_session.specs.Closing.{FoundPin, HasDropped, HasGivenBack, HasReleased, IsFreed, IsPinned, releases_by}
 use Rattle.host_session.specs.Visits.{entry_by}
 use Rattle.host_session.proofs.Snoc.{filter_none, found_none}
 use Rattle.host_session.proofs.Turning.{same_seat}

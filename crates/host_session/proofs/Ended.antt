@@ -1,5 +1,5 @@
 -- What is true of a client end stays true by an attempt to close its session.
-use Rattle.std.proofs.Common.{◌≡◌, ◌⊎◌, inl, inr, ⊎_elim, ℕ, ◌+◌, ◌-◌, ◌≤◌, ◌<◌, max, Bool, true, false, not, ◌&&◌, ◌||◌, cond, IsTrue, nat_lt, List, [], ◌∷◌, ◌++◌, length, drop, filter, filter_map, Option, Some, None, refl, sym, ap, ap₂, subst, ◌∙◌, arith, length-append, append-nil}
+use Rattle.std.proofs.Common.{◌≡◌, ◌⊎◌, ⊎_elim, ℕ, ◌+◌, ◌≤◌, max, Bool, true, false, ◌||◌, cond, IsTrue, nat_lt, List, [], ◌∷◌, ◌++◌, length, drop, filter, filter_map, Option, Some, None, refl, sym, ap, ap₂, subst, ◌∙◌, arith, length-append}
 use Rattle.std.specs.List.{list_all, list_any}
 use Rattle.std.proofs.lemmas.Bool.{ltb-false}
 use Rattle.std.proofs.lemmas.List.Folds.{list_all-append, list_any-append}
@@ -31,9 +31,9 @@ use Rattle.host_session.specs.declared.fronts.Fronts.{Fronts}
 use Rattle.host_session.specs.Acts.{Act, AreLate, IsCourse, before_drained, fronts_after, is_drain_event, log_of}
 use Rattle.host_session.specs.Acts.{is_drained as is_acts_drained}
 use Rattle.host_session.specs.Client.{AreWithin, ClientState, IntakeSeat, ends_logged, is_aborted, is_drained, turns_made}
-use Rattle.host_session.specs.Closing.{HasClosed, HasNotClosed, is_unfinished, releases_by}
+use Rattle.host_session.specs.Closing.{HasClosed, HasNotClosed, releases_by}
 use Rattle.host_session.specs.Endings.{IsOver, owed_count}
-use Rattle.host_session.specs.Kept.{HasRings, IsClient}
+use Rattle.host_session.specs.Kept.{IsClient}
 use Rattle.host_session.specs.Plan.{intake_plan, memory_plan}
 use Rattle.host_session.specs.Told.{IsTold, is_release}
 use Rattle.host_session.proofs.Blocks.{turned_own}

@@ -1,14 +1,12 @@
 -- The client has entered the buffers: what it then knows, and what is true of it once it has left them.
-use Rattle.std.proofs.Common.{◌≡◌, ℕ, suc, ◌+◌, ◌*◌, ◌-◌, ◌≤◌, ◌<◌, min, Bool, true, false, not, ◌&&◌, cond, IsTrue, List, [], ◌∷◌, ◌++◌, length, filter, filter_map, Option, Some, None, refl, sym, ap, ap₂, subst, ◌∙◌, arith, append-nil}
-use Rattle.std.specs.List.{cons_option, list_all}
+use Rattle.std.proofs.Common.{◌≡◌, ℕ, suc, ◌+◌, ◌*◌, ◌≤◌, ◌<◌, Bool, true, false, not, cond, IsTrue, List, [], ◌∷◌, ◌++◌, length, filter, Some, None, refl, sym, ap, subst, ◌∙◌, arith}
+use Rattle.std.specs.List.{list_all}
 use Rattle.std.specs.Option.{unwrap_or}
 use Rattle.atomic_table.specs.Seated.{TableId}
 use Rattle.host_block.specs.Room.{WithRoom}
-use Rattle.host_frames.specs.Seats.{pool_id}
 use Rattle.host_intake.specs.State.{MemorySeat}
 use Rattle.host_memory.specs.declared.limits.MemoryPlan.{MemoryPlan}
 use Rattle.host_memory.specs.Entries.{is_attach, is_fill_or_show, used_room}
-use Rattle.host_memory.specs.Held.{has_blocks}
 use Rattle.host_memory.specs.Numbers.{is_numbered}
 use Rattle.host_memory.specs.State.{MemoryState, admissions_of, client_of, events, history}
 use Rattle.host_model.specs.declared.event.Event.{Event}
@@ -20,24 +18,23 @@ use Rattle.host_model.specs.declared.memory.MemEvent.TheVariants as mem
 use Rattle.host_model.specs.ClientEntries.{entry_after, is_client, told}
 use Rattle.host_model.specs.Groups.{owed}
 use Rattle.host_model.specs.Lists.{count, map_after}
-use Rattle.host_model.specs.Log.{given, given_id, received, received_bytes, sent, sent_bytes}
+use Rattle.host_model.specs.Log.{given, received, received_bytes, sent, sent_bytes}
 use Rattle.host_model.specs.Taking.{is_end}
 use Rattle.host_turn.specs.History.{Continues, entries_of}
 use Rattle.host_turn.specs.Seats.{IsOutside, IsSameSeat, fixed_part, number, seat_book, seen_by}
 use Rattle.host_session.specs.declared.client.ClientEnd.TheInside.{Inside}
-use Rattle.host_session.specs.declared.fronts.Fronts.{Fronts}
 use Rattle.host_session.specs.Calls.{with_event, with_visit}
-use Rattle.host_session.specs.Client.{ClientState, room_left}
-use Rattle.host_session.specs.ClientFields.{IsCounted, IsKept, client_state}
+use Rattle.host_session.specs.Client.{room_left}
+use Rattle.host_session.specs.ClientFields.{IsKept, client_state}
 use Rattle.host_session.specs.Endings.{owed_count}
 use Rattle.host_session.specs.Kept.{IsClient}
 use Rattle.host_session.specs.Plan.{SessionPlan, id_limit, memory_plan}
 use Rattle.host_session.specs.Told.{IsTold}
-use Rattle.host_session.specs.Visits.{IsVisit, entry_by}
+use Rattle.host_session.specs.Visits.{IsVisit}
 use Rattle.host_session.proofs.Requests.{requests_quiet}
 use Rattle.host_session.proofs.Snoc.{found_none}
 use Rattle.host_session.proofs.Turning.{same_seat}
-use Rattle.host_session.proofs.Visiting.{kept_entry, kept_looked, told_found}
+use Rattle.host_session.proofs.Visiting.{told_found}
 
 -- ---- the room that the client uses
 

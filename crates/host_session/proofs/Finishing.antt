@@ -1,31 +1,28 @@
 -- What is true of a client end stays true as it ends its session.
-use Rattle.std.proofs.Common.{◌≡◌, ℕ, ◌+◌, ◌≤◌, Bool, true, false, not, List, [], ◌∷◌, ◌++◌, length, filter, Option, Some, None, refl, sym, ap, subst, ◌∙◌, arith}
+use Rattle.std.proofs.Common.{◌≡◌, true, false, not, List, [], ◌∷◌, ◌++◌, length, filter, Some, None, refl, sym, ap, subst, ◌∙◌, arith}
 use Rattle.atomic_table.specs.Seated.{TableId}
 use Rattle.host_block.specs.Room.{WithRoom}
-use Rattle.host_intake.specs.declared.entry.IntakeEntry.{IntakeEntry}
 use Rattle.host_intake.specs.declared.entry.IntakeEntry.TheVariants.{Turned}
 use Rattle.host_intake.specs.declared.entry.Phase.TheVariants as phase
-use Rattle.host_intake.specs.Told.{turns}
 use Rattle.host_model.specs.declared.event.Event.{Event}
 use Rattle.host_model.specs.declared.event.Event.TheVariants.{Aborted}
-use Rattle.host_model.specs.Lists.{all_with_before, below, count}
+use Rattle.host_model.specs.Lists.{all_with_before, below}
 use Rattle.host_model.specs.Log.{given, given_id, received, received_bytes, sent, sent_bytes, sent_index}
 use Rattle.host_model.specs.Groups.{owed}
 use Rattle.host_model.specs.Taking.{is_end, runs_out_rightly}
 use Rattle.host_model.proofs.Growth.{all_with_before-push}
 use Rattle.host_model.proofs.ListTests.{and-from}
-use Rattle.host_record.specs.declared.finish.Finish.{Finish}
 use Rattle.host_record.specs.declared.finish.Finish.TheVariants.{Drain, Abort}
 use Rattle.host_turn.specs.Seats.{seat_book, seen_by}
 use Rattle.host_session.specs.declared.client.ClientEnd.TheInside.{Inside}
 use Rattle.host_session.specs.declared.spec.SessionSpec.{SessionSpec}
 use Rattle.host_session.specs.Acts.{Act}
-use Rattle.host_session.specs.Client.{ClientState, IntakeSeat, ends_logged, is_aborted, phase_for, turns_made}
-use Rattle.host_session.specs.ClientFields.{IsCounted, IsKept, client_state}
+use Rattle.host_session.specs.Client.{ClientState, IntakeSeat, ends_logged, turns_made}
+use Rattle.host_session.specs.ClientFields.{IsKept, client_state}
 use Rattle.host_session.specs.Closing.{HasTurned}
 use Rattle.host_session.specs.Endings.{owed_count}
 use Rattle.host_session.proofs.Blocks.{turned_own}
-use Rattle.host_session.specs.Kept.{HasRings, IsClient, IsLog}
+use Rattle.host_session.specs.Kept.{IsClient, IsLog}
 use Rattle.host_session.specs.Plan.{SessionPlan, intake_plan}
 use Rattle.host_session.proofs.Course.{course_quiet}
 use Rattle.host_session.proofs.Keeping.{none_late, told_quiet}

@@ -1,18 +1,14 @@
 -- What is true of a client end, once an event without an entry was added to its log.
-use Rattle.std.proofs.Common.{◌≡◌, ℕ, zero, suc, ◌+◌, ◌-◌, ◌≤◌, ◌<◌, Bool, true, false, not, ◌==◌, ◌&&◌, ◌||◌, cond, IsTrue, List, [], ◌∷◌, ◌++◌, length, filter, map, filter_map, Option, Some, None, refl, sym, ap, subst, ◌∙◌, arith, length-append}
+use Rattle.std.proofs.Common.{◌≡◌, ℕ, zero, suc, ◌+◌, ◌-◌, ◌≤◌, ◌<◌, Bool, true, false, not, ◌==◌, ◌||◌, cond, List, [], ◌∷◌, ◌++◌, length, filter, Option, Some, None, refl, sym, ap, subst, ◌∙◌, arith, length-append}
 use Rattle.std.specs.List.{list_any, slice_get, range_with_len}
 use Rattle.std.proofs.lemmas.Bool.{eq-eqb}
-use Rattle.std.proofs.lemmas.List.{map-append}
-use Rattle.std.proofs.lemmas.List.Elements.{filter_map-append}
 use Rattle.host_intake.specs.declared.entry.IntakeEntry.{IntakeEntry}
-use Rattle.host_intake.specs.Told.{memory_front_in}
 use Rattle.host_memory.specs.State.{events}
 use Rattle.host_model.specs.declared.event.Event.{Event}
 use Rattle.host_model.specs.declared.memory.MemEntry.{MemEntry}
 use Rattle.host_model.specs.ClientEntries.{entry_after}
-use Rattle.host_model.specs.Groups.{owed}
 use Rattle.host_model.specs.Lists.{all_with_before, below, count}
-use Rattle.host_model.specs.Log.{given, given_id, received, received_bytes, requests, sent, sent_bytes, sent_index}
+use Rattle.host_model.specs.Log.{given, given_id, sent, sent_bytes, sent_index}
 use Rattle.host_model.specs.Pages.{shown_bytes}
 use Rattle.host_model.specs.Taking.{is_end, runs_out_rightly}
 use Rattle.host_model.proofs.Growth.{all_with_before-push}
@@ -23,7 +19,7 @@ use Rattle.host_session.specs.declared.spec.SessionSpec.{SessionSpec}
 use Rattle.host_session.specs.Acts.{Act, AreLate, before_drained, fronts_after, is_drained}
 use Rattle.host_session.specs.Client.{is_aborted}
 use Rattle.host_session.specs.Client.{is_drained as is_drained_end}
-use Rattle.host_session.specs.Endings.{IsEndedSoFar, IsOver, is_received, owed_count}
+use Rattle.host_session.specs.Endings.{IsEndedSoFar, IsOver, is_received}
 use Rattle.host_session.specs.Kept.{IsLog}
 use Rattle.host_session.specs.Plan.{id_limit}
 use Rattle.host_session.specs.Told.{IsTold, is_release}

@@ -1,5 +1,5 @@
 -- The fields of a client end, once a call that doesn't visit the buffers changed them.
-use Rattle.std.proofs.Common.{◌≡◌, ℕ, ◌+◌, ◌-◌, ◌≤◌, ◌<◌, Bool, true, false, not, cond, IsTrue, List, [], ◌∷◌, ◌++◌, length, filter, map, Option, Some, None, is_some, refl, sym, ap, ap₂, subst, ◌∙◌, arith, length-append}
+use Rattle.std.proofs.Common.{◌≡◌, ℕ, ◌+◌, ◌≤◌, ◌<◌, Bool, true, false, cond, IsTrue, List, [], ◌∷◌, ◌++◌, length, Option, Some, None, is_some, refl, sym, ap, subst, ◌∙◌, arith, length-append}
 use Rattle.std.proofs.lemmas.List.{length-map}
 use Rattle.host_block.specs.Room.{WithRoom}
 use Rattle.host_record.specs.declared.finish.Finish.{Finish}
@@ -9,7 +9,6 @@ use Rattle.host_model.specs.declared.event.AttachError.{AttachError}
 use Rattle.host_model.specs.declared.event.Event.{Event}
 use Rattle.host_model.specs.declared.event.Event.TheVariants.{NotAttached, Sent, Received}
 use Rattle.host_model.specs.Groups.{is_owing, owed}
-use Rattle.host_model.specs.Lists.{count}
 use Rattle.host_model.specs.Log.{given, given_id, received, received_bytes, requests, sent, sent_bytes}
 use Rattle.host_model.specs.Taking.{is_end, runs_out_rightly}
 use Rattle.host_rings.specs.declared.slip.Slip.{Slip}
@@ -18,9 +17,9 @@ use Rattle.host_rings.specs.RequestEnds.{SenderState, with_pushed}
 use Rattle.host_session.specs.declared.client.ClientEnd.TheInside.{Inside}
 use Rattle.host_session.specs.declared.fronts.Fronts.{Fronts}
 use Rattle.host_session.specs.Acts.{is_answer, next_envelope}
-use Rattle.host_session.specs.Calls.{with_event, with_slips}
-use Rattle.host_session.specs.Client.{ClientState, ends_logged, greater, is_aborted, room_left, slip_fronts}
-use Rattle.host_session.specs.ClientFields.{IsCounted, IsKept, client_state}
+use Rattle.host_session.specs.Calls.{with_slips}
+use Rattle.host_session.specs.Client.{ends_logged, greater, is_aborted, room_left, slip_fronts}
+use Rattle.host_session.specs.ClientFields.{IsKept, client_state}
 use Rattle.host_session.specs.Endings.{owed_count}
 use Rattle.host_session.specs.Kept.{IsClient}
 use Rattle.host_session.proofs.Clients.{kept_received, kept_refused, kept_sent, kept_thrown}

@@ -1,5 +1,5 @@
 -- Requests as more are sent: what is said of those sent before stays.
-use Rattle.std.proofs.Common.{◌≡◌, ℕ, zero, suc, ◌+◌, ◌≤◌, ◌<◌, Bool, true, false, ◌==◌, ◌&&◌, cond, nat_lt, List, [], ◌∷◌, ◌++◌, length, take, drop, filter, map, Option, Some, None, refl, sym, ap, ap₂, subst, ◌∙◌, arith, length-append, append-nil}
+use Rattle.std.proofs.Common.{◌≡◌, ℕ, zero, suc, ◌+◌, ◌≤◌, ◌<◌, Bool, true, false, ◌==◌, ◌&&◌, cond, nat_lt, List, [], ◌∷◌, ◌++◌, length, take, drop, filter, map, Some, None, refl, sym, ap, ap₂, subst, ◌∙◌, arith, length-append}
 use Rattle.std.specs.List.{range_with_len}
 use Rattle.std.proofs.lemmas.List.{length-map, map-append, take-append-drop, take-append-le, take-map, take_at}
 use Rattle.std.proofs.lemmas.List.Elements.{filter-append, filter_map-append}
@@ -7,7 +7,6 @@ use Rattle.std.proofs.lemmas.List.FromFn.{length-range_with_len}
 use Rattle.std.proofs.Math.ListN.{get_or-append}
 use Rattle.std.proofs.Math.Seq.{get_or-append_seam}
 use Rattle.host_record.specs.declared.request.Request.{Request}
-use Rattle.host_record.specs.declared.response.Response.{Response}
 use Rattle.host_record.specs.Request.{request_of}
 use Rattle.host_record.specs.Response.{response_bytes}
 use Rattle.host_record.specs.Status.{status_number}
@@ -19,9 +18,9 @@ use Rattle.host_model.specs.Groups.{answered_by, answers_for, closings, instance
 use Rattle.host_model.specs.Lists.{below}
 use Rattle.host_model.specs.Log.{received, received_bytes, request_at, requests, sent, sent_bytes}
 use Rattle.host_model.specs.Taking.{row_at}
-use Rattle.host_session.specs.Counting.{AreAnswered, AreSentBefore, CountingHoldsBefore, answered_in, due_records, times}
+use Rattle.host_session.specs.Counting.{CountingHoldsBefore, due_records, times}
 use Rattle.host_session.proofs.Snoc.{below_more, found_none, found_one}
-use Rattle.host_session.proofs.Times.{range_has, range_within, times-filter, times-take, times_one, times_self, count_split}
+use Rattle.host_session.proofs.Times.{range_has, times-filter, times-take, times_one, times_self, count_split}
 
 -- tests that agree below a bound keep the same numbers
 pub filter_range_same : (p q : ℕ → Bool) (a n : ℕ) → ((i : ℕ) → i < a + n → p i ≡ q i) → filter p (range_with_len a n) ≡ filter q (range_with_len a n)

@@ -1,5 +1,5 @@
 -- Slips that are thrown away, until one answers a record that was sent.
-use Rattle.std.proofs.Common.{◌≡◌, ℕ, Bool, true, false, not, ◌&&◌, List, [], ◌∷◌, ◌++◌, Option, Some, refl, sym, ap, ◌∙◌, append_assoc, append-nil}
+use Rattle.std.proofs.Common.{◌≡◌, ℕ, true, false, not, ◌&&◌, [], ◌∷◌, ◌++◌, Some, refl, sym, ap, ◌∙◌, append_assoc, append-nil}
 use Rattle.std.specs.List.{list_all}
 use Rattle.std.proofs.lemmas.List.Folds.{list_all-append}
 use Rattle.host_model.proofs.ListTests.{and-from}
@@ -8,7 +8,7 @@ use Rattle.host_record.specs.Response.{response_of}
 use Rattle.host_rings.specs.declared.slip.Slip.{Slip}
 use Rattle.host_rings.specs.AnswerEnds.{SlipTakerState, with_slip_taken}
 use Rattle.host_session.specs.Acts.{is_answer}
-use Rattle.host_session.specs.Calls.{HasThrown, IsNextAnswer, with_slips}
+use Rattle.host_session.specs.Calls.{HasThrown, IsNextAnswer}
 
 module _ (sent : ℕ) where
   pub thrown_none : (t : SlipTakerState) → HasThrown sent t t

@@ -1,5 +1,5 @@
 -- What is true of a client end stays true by a fill, a show and an attach.
-use Rattle.std.proofs.Common.{◌≡◌, ℕ, suc, ◌+◌, ◌*◌, ◌-◌, ◌≤◌, ◌<◌, ◌==◌, min, Bool, true, false, not, IsTrue, List, [], ◌∷◌, ◌++◌, length, Option, Some, None, refl, sym, ap, ap₂, subst, ◌∙◌, arith, length-append, append-nil}
+use Rattle.std.proofs.Common.{◌≡◌, ℕ, ◌+◌, ◌≤◌, ◌<◌, ◌==◌, Bool, true, false, not, IsTrue, List, [], ◌∷◌, ◌++◌, length, Some, None, refl, sym, ap, ap₂, subst, ◌∙◌, arith, length-append, append-nil}
 use Rattle.std.specs.List.{list_all, range_with_len}
 use Rattle.std.proofs.lemmas.Bool.{ne_eqb}
 use Rattle.host_block.specs.Room.{WithRoom}
@@ -20,10 +20,10 @@ use Rattle.host_turn.specs.History.{Continues}
 use Rattle.host_turn.specs.Seats.{IsOutside, IsSameSeat, fixed_part, number, seen_by}
 use Rattle.host_session.specs.declared.client.ClientEnd.TheInside.{Inside}
 use Rattle.host_session.specs.Calls.{IsAttached, IsShown}
-use Rattle.host_session.specs.Client.{ClientState, room_left}
+use Rattle.host_session.specs.Client.{room_left}
 use Rattle.host_session.specs.ClientFields.{IsKept, client_state}
 use Rattle.host_session.specs.Plan.{id_limit}
-use Rattle.host_session.specs.Visits.{HasTried, IsVisit, entry_by, entry_where}
+use Rattle.host_session.specs.Visits.{IsVisit, entry_by, entry_where}
 use Rattle.host_session.proofs.Entered.{given_so_far, numbered, plan_is, visit, visit_kept, visit_left}
 use Rattle.host_session.proofs.Snoc.{found_none, found_one, ids_more}
 use Rattle.host_session.proofs.Visiting.{kept_entry, kept_looked}

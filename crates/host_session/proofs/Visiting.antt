@@ -1,5 +1,5 @@
 -- What is true of a client end stays true as it visits the buffers.
-use Rattle.std.proofs.Common.{◌≡◌, ℕ, suc, ◌+◌, ◌-◌, ◌≤◌, ◌<◌, Bool, true, false, not, ◌&&◌, ◌||◌, cond, IsTrue, List, [], ◌∷◌, ◌++◌, length, take, filter, filter_map, map, Option, Some, None, refl, sym, ap, ap₂, subst, ◌∙◌, arith, length-append, append-nil, nat_eq}
+use Rattle.std.proofs.Common.{◌≡◌, ℕ, ◌+◌, ◌-◌, ◌≤◌, true, false, not, ◌&&◌, ◌||◌, cond, IsTrue, List, [], ◌∷◌, ◌++◌, length, take, filter, Some, None, refl, sym, ap, ap₂, subst, ◌∙◌, arith, length-append, append-nil, nat_eq}
 use Rattle.std.specs.List.{cons_option, list_all, list_any, range_with_len}
 use Rattle.std.proofs.lemmas.Bool.{eq-eqb}
 use Rattle.std.proofs.lemmas.List.{map-append, take_at}
@@ -16,25 +16,24 @@ use Rattle.host_model.specs.declared.memory.MemEntry.{MemEntry}
 use Rattle.host_model.specs.declared.memory.MemEvent.{MemEvent}
 use Rattle.host_model.specs.declared.memory.MemEvent.TheVariants.{Attach, Fill, Show, Pin, Lift, Land, Done, Release}
 use Rattle.host_model.specs.declared.memory.MemEvent.TheVariants as mem
-use Rattle.host_model.specs.ClientEntries.{entry_after, is_client, told}
+use Rattle.host_model.specs.ClientEntries.{entry_after, is_client}
 use Rattle.host_model.specs.Lists.{all_with_before, count, map_with_before}
 use Rattle.host_model.specs.Log.{given, given_id, received_bytes, sent_bytes, sent_index}
 use Rattle.host_model.specs.Pages.{found_by, shown_bytes}
 use Rattle.host_model.specs.Taking.{is_end, runs_out_rightly}
 use Rattle.host_model.proofs.ListTests.{and-from, both}
 use Rattle.host_turn.specs.History.{entries_of}
-use Rattle.host_turn.specs.Seats.{IsOutside, IsSameSeat, number, seen_by}
+use Rattle.host_turn.specs.Seats.{IsOutside, IsSameSeat, seen_by}
 use Rattle.host_session.specs.declared.fronts.Fronts.{Fronts}
-use Rattle.host_session.specs.Acts.{Act, FoundNone, HasPlace, IsAct, IsCourse, IsEventAfter, fronts_after, has_entry}
+use Rattle.host_session.specs.Acts.{Act, FoundNone, HasPlace, IsCourse, IsEventAfter, fronts_after, has_entry}
 use Rattle.host_session.specs.Calls.{with_event, with_visit}
 use Rattle.host_session.specs.Client.{AreWithin, ClientState, is_aborted, room_left}
-use Rattle.host_session.specs.Endings.{IsEndedSoFar}
-use Rattle.host_session.specs.Kept.{HasRings, IsClient, IsLog}
+use Rattle.host_session.specs.Kept.{IsClient}
 use Rattle.host_session.specs.Plan.{IsSeatIn, id_limit, memory_plan}
 use Rattle.host_session.specs.Told.{IsTold, finds_blocks, is_by_client, is_release}
 use Rattle.host_session.proofs.Blocks.{found_more, found_rest}
 use Rattle.host_session.specs.Visits.{IsVisit, entry_by}
-use Rattle.host_session.proofs.Course.{course_entry, course_quiet, course_seen, no_client, within_trans}
+use Rattle.host_session.proofs.Course.{course_entry, course_quiet, course_seen, no_client}
 use Rattle.host_session.proofs.Keeping.{log_given, log_quiet, none_late, one_more_fits, told_quiet}
 use Rattle.host_session.proofs.Snoc.{filter_none, filter_one, filter_rest, told_append, told_one, told_rest}
 

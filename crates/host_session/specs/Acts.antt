@@ -1,5 +1,5 @@
 -- The course of a client end: each event of its log, with what came with it and what the end knew after it.
-use Rattle.std.specs.Prelude.{◌≡◌, ℕ, ◌+◌, ◌-◌, ◌≤◌, ◌<◌, Bool, true, false, ◌&&◌, nat_lt, if◌then◌else◌, is_some, IsTrue, List, [], ◌∷◌, map, length, take, filter, filter_map, slice_get, Option, Some, None}
+use Rattle.std.specs.Prelude.{◌≡◌, ℕ, ◌-◌, ◌≤◌, ◌<◌, Bool, true, false, ◌&&◌, nat_lt, if◌then◌else◌, is_some, IsTrue, List, [], ◌∷◌, map, length, take, filter, filter_map, slice_get, Option, Some, None}
 use Rattle.host_model.specs.declared.event.Event.{Event}
 use Rattle.host_model.specs.declared.event.Event.TheVariants.{Attached, Filled, Shown, Sent, Received, Drained}
 use Rattle.host_model.specs.declared.memory.MemEntry.{MemEntry}

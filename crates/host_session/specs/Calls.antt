@@ -1,5 +1,5 @@
 -- What each call of a client end answers and leaves.
-use Rattle.std.specs.Prelude.{◌≡◌, ◌⊎◌, ℕ, ◌+◌, ◌<◌, ◌≤◌, Bool, true, false, not, List, [], ◌∷◌, ◌++◌, length, replicate, Option, Some, None, Result, Ok, Err, IsTrue, is_some}
+use Rattle.std.specs.Prelude.{◌≡◌, ◌⊎◌, ℕ, ◌+◌, ◌<◌, Bool, true, false, not, List, [], ◌∷◌, ◌++◌, length, replicate, Option, Some, None, Result, Ok, Err, IsTrue, is_some}
 use Rattle.std.specs.List.{list_all}
 use Rattle.atomic_table.specs.Seated.{TableId}
 use Rattle.host_frames.specs.declared.seat.PoolSeat.{PoolSeat}

@@ -1,5 +1,5 @@
 -- What contracts see of a client end.
-use Rattle.std.specs.Prelude.{◌≤◌, ℕ, ◌-◌, max, Bool, true, false, not, List, [], ◌∷◌, length, Option, Some, None}
+use Rattle.std.specs.Prelude.{◌≤◌, ℕ, ◌-◌, max, Bool, true, false, not, List, [], ◌∷◌, Option, Some, None}
 use Rattle.host_intake.specs.declared.entry.IntakeEntry.{IntakeEntry}
 use Rattle.host_intake.specs.declared.entry.Phase.{Phase}
 use Rattle.host_intake.specs.declared.entry.Phase.TheVariants as phase

@@ -19,7 +19,6 @@ use Rattle.host_model.specs.declared.event.Event.{Event}
 use Rattle.host_model.specs.declared.event.Event.TheVariants.{Drained}
 use Rattle.host_model.specs.declared.memory.MemEntry.{MemEntry}
 use Rattle.host_model.specs.declared.memory.MemEvent.TheVariants.{Release}
-use Rattle.host_model.specs.Releases.{released}
 use Rattle.host_record.specs.declared.finish.Finish.{Finish}
 use Rattle.host_record.specs.declared.finish.Finish.TheVariants.{Drain}
 use Rattle.host_turn.specs.History.{Continues}

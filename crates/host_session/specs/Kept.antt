@@ -1,5 +1,5 @@
 -- What is true of every client end.
-use Rattle.std.specs.Prelude.{◌≡◌, ℕ, ◌+◌, ◌≤◌, not, List, length, filter_map, IsTrue}
+use Rattle.std.specs.Prelude.{◌≡◌, ◌≤◌, not, List, length, filter_map, IsTrue}
 use Rattle.host_model.specs.declared.event.Event.{Event}
 use Rattle.host_model.specs.Lists.{all_with_before, below, count}
 use Rattle.host_model.specs.Log.{given, sent, sent_index}

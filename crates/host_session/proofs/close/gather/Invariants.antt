@@ -1,4 +1,4 @@
-use Rattle.std.proofs.Common.{◌≡◌, ◌≤◌, ◌++◌, length, map, vec_capacity}
+use Rattle.std.proofs.Common.{◌≡◌, ◌++◌, map, vec_capacity}
 use Rattle.host_session.proofs.close.gather.Given as goal
 
 abbrev pub invariant-loop-hand : goal.invariant-loop-hand

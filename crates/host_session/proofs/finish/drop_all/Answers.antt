@@ -1,4 +1,4 @@
-use Rattle.std.proofs.Common.{◌≡◌, length, ap, sym, subst, ◌∙◌}
+use Rattle.std.proofs.Common.{length, ap, sym, subst, ◌∙◌}
 use Rattle.host_frames.specs.Seats.{contents}
 use Rattle.host_memory.specs.State.{MemoryState}
 use Rattle.host_model.specs.declared.memory.MemEntry.{MemEntry}

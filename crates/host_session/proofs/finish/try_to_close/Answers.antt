@@ -1,4 +1,4 @@
-use Rattle.std.proofs.Common.{◌≡◌, [], ◌∷◌, sym, ◌∙◌}
+use Rattle.std.proofs.Common.{[], ◌∷◌, sym, ◌∙◌}
 use Rattle.host_session.specs.Client.{phase_for}
 use Rattle.host_session.proofs.Shutting.{attempt_answer, ending_phase}
 use Rattle.host_session.proofs.Turning.{entered_turns}

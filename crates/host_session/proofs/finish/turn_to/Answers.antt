@@ -1,4 +1,4 @@
-use Rattle.std.proofs.Common.{◌≡◌, ◌+◌, List, [], ◌∷◌, ◌++◌, Some, sym, ap, subst, ◌∙◌}
+use Rattle.std.proofs.Common.{◌≡◌, List, [], ◌∷◌, ◌++◌, sym, ap, ◌∙◌}
 use Rattle.host_record.specs.declared.finish.Finish.{Finish}
 use Rattle.host_intake.specs.declared.entry.IntakeEntry.{IntakeEntry}
 use Rattle.host_intake.specs.declared.entry.IntakeEntry.TheVariants.{Turned}

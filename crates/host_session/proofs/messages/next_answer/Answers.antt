@@ -1,4 +1,4 @@
-use Rattle.std.proofs.Common.{◌≡◌, None, sym, subst}
+use Rattle.std.proofs.Common.{sym, subst}
 use Rattle.host_rings.specs.AnswerEnds.{FoundNone, SlipTakerState}
 use Rattle.host_session.specs.Calls.{HasFoundAnswer, HasThrown}
 use Rattle.host_session.proofs.Thrown.{answer_found, thrown_none, thrown_one}

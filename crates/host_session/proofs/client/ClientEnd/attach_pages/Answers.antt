@@ -1,4 +1,4 @@
-use Rattle.std.proofs.Common.{◌≡◌, ℕ, ◌+◌, ◌≤◌, ◌<◌, [], ◌∷◌, ◌++◌, length, None, ap, sym, subst, ◌∙◌, arith}
+use Rattle.std.proofs.Common.{◌≡◌, ℕ, ◌+◌, ◌≤◌, ◌<◌, [], ◌∷◌, ◌++◌, length, None, ap, sym, subst, ◌∙◌}
 use Rattle.host_memory.specs.declared.limits.MemoryPlan.{MemoryPlan}
 use Rattle.host_memory.specs.Entries.{given_count}
 use Rattle.host_memory.specs.State.{client_of, history}

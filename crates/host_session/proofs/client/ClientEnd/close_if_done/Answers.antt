@@ -1,7 +1,6 @@
-use Rattle.std.proofs.Common.{◌≡◌, ◌&&◌, false, true, cond, nat_lt, IsSome, ◌++◌, length, inl, inr, ◌⊎◌, sym, ap, subst, ◌∙◌}
+use Rattle.std.proofs.Common.{◌≡◌, ◌&&◌, false, true, cond, nat_lt, IsSome, inr, sym, ap, subst, ◌∙◌}
 use Rattle.host_block.specs.Room.{WithRoom}
 use Rattle.host_model.specs.declared.event.Event.{Event}
-use Rattle.host_model.specs.Log.{received}
 use Rattle.host_session.specs.Client.{ClientState, is_aborted, is_drained}
 use Rattle.host_session.specs.ClientFields.{client_state}
 use Rattle.host_session.specs.Closing.{IsClosing, IsStillOpen}

@@ -1,4 +1,4 @@
-use Rattle.std.proofs.Common.{◌≡◌, ◌+◌, ◌≤◌, ℕ, not, List, length, filter, sym, ap, subst, ◌∙◌, arith}
+use Rattle.std.proofs.Common.{◌≡◌, not, length, filter, ap, arith}
 use Rattle.host_model.specs.declared.event.Event.{Event}
 use Rattle.host_model.specs.Lists.{count}
 use Rattle.host_model.specs.Taking.{is_end}

@@ -1,4 +1,4 @@
-use Rattle.std.proofs.Common.{◌≡◌, ◌≤◌, ◌<◌, None, length, sym, subst, ◌∙◌, arith}
+use Rattle.std.proofs.Common.{◌≤◌, ◌<◌, length, sym, subst, ◌∙◌, arith}
 use Rattle.host_model.specs.Log.{sent}
 use Rattle.host_session.specs.Client.{ClientState, room_left}
 use Rattle.host_session.specs.ClientFields.{client_state}
