@@ -10,7 +10,6 @@ use Rattle.host_block.specs.Disk.{IsImage}
 use Rattle.host_block.specs.declared.range.Range.{Range}
 use Rattle.host_gpt.specs.Table.{IsTable}
 use Rattle.host_gpt.specs.declared.which.Which.{Which}
-use Rattle.host_gpt.specs.declared.which.Which.TheVariants.{Primary}
 use Rattle.host_part.specs.Ranges.{IsRangeOf}
 use Rattle.host_record.specs.declared.finish.Finish.TheVariants.{Drain}
 use Rattle.host_model.specs.Changes.{change_of, changes_of}
@@ -52,10 +51,10 @@ use Rattle.host_run.proofs.ShowLemmas.{shows_are}
 use Rattle.host_run.proofs.TakenLemmas.{is_taken, session_with}
 
 -- what a report says of the session that was played
-pub record IsReportOf (dry : DryCopy) (range : Range) (script : ShortScript) (history : History) (report : Report) : Type 0 where
+pub record IsReportOf (dry : DryCopy) (which_is : Which) (range : Range) (script : ShortScript) (history : History) (report : Report) : Type 0 where
   pub blocks : report.blocks ≡ dry.blocks
   pub size : report.size ≡ dry.size
-  pub which : report.which ≡ Primary
+  pub which : report.which ≡ which_is
   pub session : SessionReport
   pub sessions : report.sessions.items ≡ session ∷ []
   pub number : session.number ≡ 1
@@ -149,9 +148,9 @@ right_shows image size range script course few back s is =
     (memory_with script.attach course.is_attached (line_mem image range given course.made script.read) script.show) few back s is
 
 -- the session of the report is that one
-same_session : (image : List (List ℕ)) (dry : DryCopy) (range : Range) (script : ShortScript) (history : History) (report : Report) → (is : IsReportOf dry range script history report) → (played : HasPlayed image dry.size range script history)
+same_session : (image : List (List ℕ)) (dry : DryCopy) (which : Which) (range : Range) (script : ShortScript) (history : History) (report : Report) → (is : IsReportOf dry which range script history report) → (played : HasPlayed image dry.size range script history)
     → session_of report is.session ≡ session_with dry.size range (session_log dry.size range script played.course (session_steps image range played.course.made script.read)) (session_rows range (given_in script played.course) played.course.made script.read) (memory_with script.attach played.course.is_attached (line_mem image range (given_in script played.course) played.course.made script.read) script.show) (session_steps image range played.course.made script.read)
-same_session image dry range script history report is played =
+same_session image dry which range script history report is played =
     let made = played.course.made in
     let log = is.log ∙ played.log ∙ ap (λ (l : List Step). session_log dry.size range script played.course l) played.steps in
     let all = is.steps ∙ ap (λ (l : List Step). l ++ closing_flush false ∷ []) played.steps in
@@ -159,7 +158,7 @@ same_session image dry range script history report is played =
     let steps = (λ i. filter (λ step. step.session == is.number i) (all i)) ∙ kept (λ step. step.session == 1) image range made script.read (λ from k. refl) refl in
     (λ i. record { size = is.size i; range = is.range_is i; log = log i; rows = (is.taken ∙ played.rows) i; memory = memory i; steps = steps i; finish = is.finish i })
 
-pub is_lawful : (start : Start) (history : History) (report : Report) → IsServedStart start → HasPlayed (image_in start.dry) start.dry.size start.range start.script history → IsReportOf start.dry start.range start.script history report
+pub is_lawful : (start : Start) (history : History) (report : Report) → IsServedStart start → HasPlayed (image_in start.dry) start.dry.size start.range start.script history → IsReportOf start.dry start.which start.range start.script history report
     → IsLawful (image_in start.dry) report
 is_lawful start history report served played is =
     let image = image_in start.dry in
@@ -188,7 +187,7 @@ is_lawful start history report served played is =
             ∙ ap (λ (n : ℕ). n ∷ []) is.number
             ∙ sym (ap (λ (l : List SessionReport). range_with_len 1 (length l)) is.sessions);
         sessions = subst (AllByRecursion (λ (s : SessionReport). IsLawfulSession (session_of report s))) (sym is.sessions)
-            (subst IsLawfulSession (sym (same_session image dry range script history report is played)) (lawful_session image dry.size range script played.course played.few played.reads_back), tt);
+            (subst IsLawfulSession (sym (same_session image dry start.which range script history report is played)) (lawful_session image dry.size range script played.course played.few played.reads_back), tt);
         closing =
             all ∙ sym (
             (λ i. filter (is_of_sessions (length (is.sessions i))) (all i) ++ closing_steps (is.closing i))
@@ -206,7 +205,7 @@ is_lawful start history report served played is =
       };
     }
 
-pub shows_reads : (start : Start) (history : History) (report : Report) → HasPlayed (image_in start.dry) start.dry.size start.range start.script history → IsReportOf start.dry start.range start.script history report → ShowsItsReads report
+pub shows_reads : (start : Start) (history : History) (report : Report) → HasPlayed (image_in start.dry) start.dry.size start.range start.script history → IsReportOf start.dry start.which start.range start.script history report → ShowsItsReads report
 shows_reads start history report played is =
     let image = image_in start.dry in
     let range = start.range in
@@ -217,7 +216,7 @@ shows_reads start history report played is =
     record {
       shows = subst (AllByRecursion (λ (s : SessionReport). IsTrue (all_with_before (is_shown_rightly (session_of report s)) s.log.items))) (sym is.sessions) (
         ap (λ (l : List Event). all_with_before (is_shown_rightly (session_of report is.session)) l) log
-            ∙ right_shows image start.dry.size range script played.course played.few played.reads_back (session_of report is.session) (same_session image start.dry range script history report is played),
+            ∙ right_shows image start.dry.size range script played.course played.few played.reads_back (session_of report is.session) (same_session image start.dry start.which range script history report is played),
         tt,
       );
       no_faults =
@@ -226,7 +225,7 @@ shows_reads start history report played is =
           ∙ and-from (list_all (λ step. not step.faulted) (session_steps image range made script.read)) true (passes (λ step. not step.faulted) image range made script.read (λ from k. refl)) refl;
     }
 
-pub is_played : (start : Start) (history : History) (report : Report) → HasPlayed (image_in start.dry) start.dry.size start.range start.script history → IsReportOf start.dry start.range start.script history report
+pub is_played : (start : Start) (history : History) (report : Report) → HasPlayed (image_in start.dry) start.dry.size start.range start.script history → IsReportOf start.dry start.which start.range start.script history report
     → IsPlayed (plan_of start.script ∷ []) report
 is_played start history report played is =
     let script = start.script in

@@ -6,7 +6,7 @@ use Rattle.host_list.specs.Text.{list_text}
 use Rattle.host_list.specs.declared.list_error.ListError.TheVariants as error
 use Rattle.host_run.specs.Refusals.{refusal_line}
 use Rattle.host_run.specs.Writes.{PutsText}
-use Rattle.host_run.specs.declared.status.Limit.TheVariants as limit
+use Rattle.host_start.specs.declared.error.Limit.TheVariants as limit
 use Rattle.host_run.specs.declared.status.RunStatus.{RunStatus}
 use Rattle.host_run.specs.declared.status.RunStatus.TheVariants.{DiskFault, Done, NoTable, OutOfMemory, SinkFault, TooLarge}
 

@@ -1,15 +1,16 @@
 -- What a run leaves, where its session was played.
-use Rattle.std.specs.Prelude.{◌≡◌, ℕ, not, IsTrue, List, [], ◌∷◌, Option, Some, IfSome}
+use Rattle.std.specs.Prelude.{◌≡◌, ℕ, not, IsTrue, List, Option, Some, IfSome}
 use Rattle.std.specs.List.{AllByRecursion, list_all}
 use Rattle.host_io.specs.Flat.{image_of}
 use Rattle.host_io.specs.MemDisk.{opening_of}
 use Rattle.host_io.specs.declared.mem_disk.MemDisk.{MemDisk}
 use Rattle.host_model.specs.Lists.{all_with_before}
 use Rattle.host_report.specs.Lawful.{IsLawful, session_of}
-use Rattle.host_report.specs.Played.{IsPlayed}
 use Rattle.host_report.specs.declared.report.Report.{Report}
-use Rattle.host_run.specs.Plans.{plan_of}
-use Rattle.host_run.specs.Script.{IsScriptOf}
+use Rattle.host_run.specs.Short.{short_of}
+use Rattle.host_start.specs.Reading.{IsWithin}
+use Rattle.script_model.specs.Plans.{SessionPlan}
+use Rattle.script_played.specs.Played.{PlaysPlans}
 use Rattle.host_run.specs.Shows.{is_shown_rightly}
 use Rattle.host_run.specs.Words.{DryRun, dry_run_in}
 use Rattle.host_words.specs.Commands.{Meaning}
@@ -31,11 +32,13 @@ OpensAs meaning image_named dry = IsAsked meaning (λ run. opening_image run.siz
 abbrev pub HasSize : Option Meaning → Report → Type 0
 HasSize meaning report = IsAsked meaning (λ run. report.size ≡ run.size)
 
--- the report is that of the script in this text
+-- the text is a script of the short form within its limits, and the report is that of a run that played it
 pub record PlaysText (text : List ℕ) (report : Report) : Type 0 where
   pub script : ShortScript
-  pub is : IsScriptOf text script
-  pub played : IsPlayed (plan_of script ∷ []) report
+  pub plans : List SessionPlan
+  pub within : IsWithin report.size text plans
+  pub short : short_of plans ≡ Some script
+  pub played : PlaysPlans plans report
 
 -- what the report's clients were shown is told by the steps of the device, none of which faulted
 pub record ShowsItsReads (report : Report) : Type 0 where

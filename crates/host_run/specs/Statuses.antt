@@ -1,8 +1,9 @@
 -- How a run ends.
-use Rattle.std.specs.Prelude.{◌≡◌, ℕ, Bool, true, false, List, [], Option, Some, None, IsSome}
+use Rattle.std.specs.Prelude.{◌≡◌, ◌↔◌, ℕ, Bool, true, false, Option, Some, None, IsSome}
 use Rattle.host_run.specs.Made.{IsMakeStatus}
 use Rattle.host_run.specs.Refusals.{refused_status}
-use Rattle.host_run.specs.Script.{IsReadOut}
+use Rattle.host_io.specs.declared.mem_disk.MemDisk.{MemDisk}
+use Rattle.host_start.specs.declared.error.Limit.TheVariants as limit
 use Rattle.host_run.specs.Words.{Making, TableOf}
 use Rattle.host_run.specs.declared.refusal.Refusal.{Refusal}
 use Rattle.host_report.specs.declared.closing.Closing.{Closing}
@@ -36,8 +37,8 @@ played_status Fault was_written = ClosingFault
 played_status NoMemory was_written = OutOfMemory
 
 -- The report of a run comes with the statuses 0, 1 and 7, with 8 just where the closing flush was refused memory, and with
--- no other; status 1 comes just where the closing flush failed. Without a report the status is that of a refusal: 2, 5, 6,
--- 8 or 11.
+-- no other; status 1 comes just where the closing flush failed. Without a report the status is that of a refusal: 2 to 6 or 8
+-- to 11.
 abbrev pub HasRunReport : RunStatus → Option Report → Type 0
 HasRunReport status None = (refusal : Refusal) × (status ≡ refused_status refusal)
 HasRunReport status (Some report) = (was_written : Bool) × (status ≡ played_status report.closing was_written)
@@ -53,9 +54,14 @@ HasReport (Some listing) making status report = report ≡ None
 HasReport None (Some making) status report = HasMade status report
 HasReport None None status report = HasRunReport status report
 
--- What a status of a run says of the reading of the script: but for 6, 8 without a report, and 11 for the words, it was read to its
--- end, or past its limit.
-pub record ReadsOut (is_dry_run : Type 0) (status : RunStatus) (report : Option Report) (left new_left : List ℕ) : Type 0 where
-  pub played : IsSome report → new_left ≡ []
-  pub disk : status ≡ DiskFault → is_dry_run → new_left ≡ []
-  pub not_built : status ≡ NotBuilt → is_dry_run → IsReadOut left new_left
+-- the status tells of the content of an image
+abbrev pub IsContentStatus : RunStatus → Type 0
+IsContentStatus NoTable = Unit {0}
+IsContentStatus (TooLarge limit.Table) = Unit {0}
+IsContentStatus (NoPart session part) = Unit {0}
+IsContentStatus _ = ⊥
+
+-- a dry copy is handed out with a report, and without one exactly where its content is the cause of the refusal
+abbrev pub HandsOut : Option MemDisk → RunStatus → Option Report → Type 0
+HandsOut dry status (Some report) = IsSome dry
+HandsOut dry status None = IsSome dry ↔ IsContentStatus status

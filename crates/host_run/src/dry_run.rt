@@ -1,20 +1,20 @@
 //! A run on a copy of an image in memory.
-ghost use Rattle.std.specs.Prelude.{◌≡◌, ◌↔◌, ◌≢◌, false, Some, None, IsTrue, IsSome, IfSome, IfNone};
+ghost use Rattle.std.specs.Prelude.{◌≡◌, ◌≢◌, false, Some, None, IsTrue, IfSome, IfNone};
 ghost use Rattle.host_io.specs.Causes.{Rose};
 ghost use Rattle.host_io.specs.Disks.{OnlyReads};
 ghost use Rattle.host_io.specs.MemDisk.{counts_of};
 ghost use Rattle.host_report.specs.Text.{report_text};
 ghost use Rattle.host_report.specs.declared.closing.Closing.TheVariants.{Fault as ClosingFault};
-ghost use Rattle.host_run.specs.Built.{IsBuiltOn};
-ghost use Rattle.host_run.specs.Outcomes.{IsLawfulOn, PlaysText, ShowsItsReads, opening_image};
+ghost use Rattle.host_run.specs.Ending.{Ends};
+ghost use Rattle.host_run.specs.Outcomes.{IsLawfulOn, ShowsItsReads, opening_image};
 ghost use Rattle.host_run.specs.Refusals.{refusal_line};
-ghost use Rattle.host_run.specs.Statuses.{HasRunReport, ReadsOut, played_status};
+ghost use Rattle.host_run.specs.Statuses.{HandsOut, HasRunReport, played_status};
 ghost use Rattle.host_run.specs.Writes.{PutsText};
-ghost use Rattle.host_run.specs.declared.status.RunStatus.TheVariants.{BadWords, DiskFault, NotBuilt, ScriptFault, SinkFault};
+ghost use Rattle.host_run.specs.declared.status.RunStatus.TheVariants.{BadWords, DiskFault, ScriptFault, SinkFault};
 
 use crate::outcome::Outcome;
 use crate::played::PlayedRun;
-use crate::refuse::refuse;
+use crate::refuse::refuse_on;
 use crate::start::Start;
 use crate::status::RunStatus;
 use host_block::BlockSize;
@@ -36,23 +36,20 @@ pub fn dry_run<S: Source, D: Disk, K: Sink>(
     ensures script_fault { result.status ≡ ScriptFault → Rose (S.faults script.old) (S.faults script.new) }
     ensures sink_fault { result.status ≡ SinkFault → Rose (K.faults out.old) (K.faults out.new) }
 
-    // What was read, and whether the run is built.
-    ensures read_out { IsTrue (S.tells script.old) → ReadsOut (Unit {0}) result.status result.report (S.left script.old) (S.left script.new) }
-    ensures not_built { IsTrue (S.tells script.old) → IsTrue (D.shape disk).tells → result.status ≡ NotBuilt → ¬ IsBuiltOn (D.image_named disk image.now size) (S.left script.old) }
-    ensures built { IsTrue (S.tells script.old) → IsTrue (D.shape disk).tells → IsSome result.report → IsBuiltOn (D.image_named disk image.now size) (S.left script.old) }
+    // How it ends: the script that was read was played, or the refusal says its cause.
+    ensures ends { Ends (record { source_tells = S.tells script.old; left = S.left script.old; new_left = S.left script.new; disk_tells = (D.shape disk).tells; image = D.image_named disk image.now size; size = size }) result.status result.report }
     ensures only_reads { OnlyReads (D.counts disk) (D.counts result.disk) (D.never_fails disk) (D.never_fails result.disk) }
 
     // What comes with the status.
     ensures report { HasRunReport result.status result.report }
-    ensures dry { IsSome result.dry ↔ IsSome result.report }
+    ensures dry { HandsOut result.dry result.status result.report }
 
     // What was played, and on what.
     ensures opening { IsTrue (D.shape disk).tells → IfSome result.dry (λ dry. opening_image size dry ≡ D.image_named disk image.now size) }
     ensures size { IfSome result.report (λ report. report.size ≡ size) }
-    ensures played { IsTrue (S.tells script.old) → IfSome result.report (PlaysText (S.left script.old)) }
     ensures lawful { IsLawfulOn result.dry result.report }
     ensures shows { IfSome result.report ShowsItsReads }
-    ensures flushed { IfSome result.dry (λ dry. (counts_of dry).syncs ≡ 1) }
+    ensures flushed { IfSome result.report (λ _. IfSome result.dry (λ dry. (counts_of dry).syncs ≡ 1)) }
 
     // What was put.
     ensures text { IfSome result.report (λ report. PutsText (K.tells out.old) (K.appended out.old) (K.appended out.new) (K.faults out.old) (K.faults out.new) (report_text report false)) }
@@ -61,7 +58,7 @@ pub fn dry_run<S: Source, D: Disk, K: Sink>(
     let mut disk = disk;
     match Start::prepare(alloc, script, &mut disk, image, size) {
         Ok(start) => report(start.play(alloc), disk, out),
-        Err(refusal) => refuse(refusal, disk, out),
+        Err(none) => refuse_on(none.refusal, none.copy, disk, out),
     }
 }
 

@@ -3,10 +3,11 @@
 
 mod dry;
 mod dry_run;
+mod first_range;
 mod list;
 mod make;
+mod no_start;
 mod outcome;
-mod partition;
 mod played;
 mod put;
 mod refusal;
@@ -18,6 +19,8 @@ mod status;
 mod task;
 mod top_call;
 
+pub use host_script::ScriptCause;
+pub use host_start::Limit;
 pub use outcome::Outcome;
-pub use status::{Limit, RunStatus, ScriptCause};
+pub use status::RunStatus;
 pub use top_call::run;

@@ -3,6 +3,9 @@ ghost use Rattle.std.specs.Prelude.{◌≡◌, None};
 ghost use Rattle.host_io.specs.Causes.{Rose};
 ghost use Rattle.host_io.specs.Disks.{OnlyReads};
 ghost use Rattle.host_run.specs.Listed.{ListLeaves};
+ghost use Rattle.host_run.specs.Refusals.{refusal_line, start_status};
+ghost use Rattle.host_run.specs.Writes.{PutsText};
+ghost use Rattle.host_start.specs.declared.error.StartError.TheVariants.{TooLarge};
 ghost use Rattle.host_run.specs.declared.status.RunStatus.TheVariants.{DiskFault, SinkFault};
 
 use crate::outcome::Outcome;
@@ -12,6 +15,7 @@ use crate::status::RunStatus;
 use host_block::BlockSize;
 use host_io::{Disk, Sink};
 use host_list::{ListError, list_image};
+use host_start::{Limit, StartError};
 use std::alloc::Global;
 
 /// Attaches the image without writes, and puts the text of its table.
@@ -33,12 +37,29 @@ pub fn list<D: Disk, K: Sink>(
     match list_image(alloc, image, size, &mut disk, out) {
         Ok(()) => listed(RunStatus::Done, disk),
         Err(ListError::Sink) => listed(RunStatus::SinkFault, disk),
-        Err(ListError::Disk) => refuse(Refusal::Disk, disk, out),
-        Err(ListError::TooManyBlocks) => refuse(Refusal::TooManyBlocks, disk, out),
-        Err(ListError::NoTable) => refuse(Refusal::NoTable, disk, out),
-        Err(ListError::TableTooLarge) => refuse(Refusal::TableTooLarge, disk, out),
-        Err(ListError::Oom) => refuse(Refusal::Memory, disk, out),
+        Err(ListError::Disk) => no_list(StartError::Disk, disk, out),
+        Err(ListError::TooManyBlocks) => no_list(too_large(Limit::Blocks), disk, out),
+        Err(ListError::NoTable) => no_list(StartError::NoTable, disk, out),
+        Err(ListError::TableTooLarge) => no_list(too_large(Limit::Table), disk, out),
+        Err(ListError::Oom) => no_list(StartError::Oom, disk, out),
     }
+}
+
+fn too_large(what: Limit) -> StartError
+    ensures { result ≡ TooLarge what }
+{
+    StartError::TooLarge { what }
+}
+
+// A call whose text isn't begun.
+fn no_list<D, K: Sink>(error: StartError, disk: D, out: &mut K) -> Outcome<D>
+    ensures status { result.status ≡ start_status error }
+    ensures disk { result.disk ≡ disk }
+    ensures no_dry { result.dry ≡ None }
+    ensures no_report { result.report ≡ None }
+    ensures line { PutsText (K.tells out.old) (K.appended out.old) (K.appended out.new) (K.faults out.old) (K.faults out.new) (refusal_line (start_status error)) }
+{
+    refuse(Refusal::NoStart { error }, disk, out)
 }
 
 // A call whose text was begun.

@@ -37,7 +37,7 @@ pub fn make<D, K: Sink>(
 {
     match generate(alloc, seed, sessions, requests) {
         Ok(script) => put_script(&script, disk, out),
-        Err(_) => refuse(Refusal::Memory, disk, out),
+        Err(_) => refuse(Refusal::memory(), disk, out),
     }
 }
 

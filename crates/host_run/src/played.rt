@@ -12,7 +12,6 @@ ghost use Rattle.host_run.specs.Plans.{plan_of};
 use crate::session::play::play;
 use crate::start::Start;
 use host_block::{Bytes, Op};
-use host_gpt::Which;
 use host_io::MemDisk;
 use host_model::Step;
 use host_record::Finish;
@@ -44,6 +43,7 @@ impl Start {
         let Start {
             script,
             mut dry,
+            which,
             range,
             room,
             mut sessions,
@@ -65,7 +65,7 @@ impl Start {
             report: Report {
                 blocks,
                 size,
-                which: Which::Primary,
+                which,
                 sessions,
                 steps: history.steps,
                 closing: Closing::Good,

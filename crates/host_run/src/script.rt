@@ -1,13 +1,11 @@
-//! Scripts of one session that are read so far.
+//! The script of a run that is played so far.
+ghost use Rattle.std.specs.Prelude.{◌≡◌};
+ghost use Rattle.host_run.specs.Session.{read_request};
 
-mod numbers;
-mod parse;
-mod read;
+mod short;
 
-pub use read::read_script;
-
-/// The most bytes that a script may have.
-pub const SCRIPT_LIMIT: usize = 4096;
+use host_record::Request;
+pub use short::short_form;
 
 /// A session on partition `part`, whose lines stand in this order, each at most once.
 #[derive(Clone, Copy, Debug, PartialEq, Eq)]
@@ -36,4 +34,19 @@ pub struct ShowLine {
     pub id: u16,
     pub block: u32,
     pub count: u32,
+}
+
+/// The record of a line `read`.
+pub fn request_of(line: ReadLine) -> Request
+    ensures { result ≡ read_request line }
+{
+    Request {
+        command: 1,
+        reqid: line.reqid,
+        group: 0,
+        vmoid: line.id,
+        length: line.length,
+        vmo_offset: line.buffer_offset,
+        dev_offset: line.device_offset,
+    }
 }

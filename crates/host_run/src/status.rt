@@ -2,29 +2,8 @@
 ghost use Rattle.std.specs.Prelude.{◌≡◌};
 ghost use Rattle.host_run.specs.Statuses.{number_of};
 
-/// What is wrong with a line of a script.
-#[derive(Clone, Copy, Debug, PartialEq, Eq)]
-pub enum ScriptCause {
-    BadByte,
-    UnknownWord,
-    NoSession,
-    AfterEnd,
-    WrongCount,
-    BadNumber,
-    BadHex,
-    TooMany,
-}
-
-/// A limit that was passed.
-#[derive(Clone, Copy, Debug, PartialEq, Eq)]
-pub enum Limit {
-    ScriptBytes,
-    Sessions,
-    Records,
-    Moved,
-    Blocks,
-    Table,
-}
+use host_script::ScriptCause;
+use host_start::Limit;
 
 /// How a run ended.
 #[derive(Clone, Copy, Debug, PartialEq, Eq)]

@@ -1,14 +1,14 @@
 //! The top call.
-ghost use Rattle.std.specs.Prelude.{◌≡◌, ◌↔◌, ◌≢◌, ◌⊎◌, map, false, None, IsTrue, IsSome, IfSome, IfNone};
-ghost use Rattle.host_run.specs.Built.{IsBuilt};
-ghost use Rattle.host_run.specs.Outcomes.{HasSize, IsLawfulOn, OpensAs, PlaysText, ShowsItsReads};
+ghost use Rattle.std.specs.Prelude.{◌≡◌, ◌≢◌, ◌⊎◌, map, false, None, IsTrue, IsSome, IfSome, IfNone};
+ghost use Rattle.host_run.specs.Ending.{Ends};
+ghost use Rattle.host_run.specs.Outcomes.{HasSize, IsLawfulOn, OpensAs, ShowsItsReads};
 ghost use Rattle.host_io.specs.Causes.{Rose};
 ghost use Rattle.host_io.specs.Disks.{OnlyReads};
 ghost use Rattle.host_io.specs.MemDisk.{counts_of};
 ghost use Rattle.host_run.specs.Listed.{ListLeaves};
 ghost use Rattle.host_run.specs.Made.{PutsScript};
 ghost use Rattle.host_run.specs.Refusals.{refusal_line};
-ghost use Rattle.host_run.specs.Statuses.{HasReport, ReadsOut};
+ghost use Rattle.host_run.specs.Statuses.{HandsOut, HasReport};
 ghost use Rattle.host_report.specs.Text.{report_text};
 ghost use Rattle.host_run.specs.Words.{IsUnbuilt, dry_run_in, listing_in, making_in};
 ghost use Rattle.host_words.specs.Commands.{command_of};
@@ -43,8 +43,8 @@ pub fn run<'a, S: Source, D: Disk + Send, K: Sink, G: Gate + Sync>(
     ensures script_fault { result.status ≡ ScriptFault → Rose (S.faults script.old) (S.faults script.new) }
     ensures sink_fault { result.status ≡ SinkFault → Rose (K.faults out.old) (K.faults out.new) }
 
-    // The script was read to its end, or past its limit.
-    ensures read_out { IsTrue (S.tells script.old) → ReadsOut (IsSome (dry_run_in (command_of (map (λ w. w.now) words.entry.now)))) result.status result.report (S.left script.old) (S.left script.new) }
+    // How a run ends: the script that was read was played, or the status is that of a refusal, which says its cause.
+    ensures ends { IfSome (dry_run_in (command_of (map (λ w. w.now) words.entry.now))) (λ run. Ends (record { source_tells = S.tells script.old; left = S.left script.old; new_left = S.left script.new; disk_tells = (D.shape disk).tells; image = D.image_named disk run.name run.size; size = run.size }) result.status result.report) }
 
     // Words outside the grammar, and words that ask for what isn't built, are told exactly, but for want of memory. Where
     // no run is asked for the source isn't touched, nor is the disk where no table is to be listed.
@@ -54,26 +54,22 @@ pub fn run<'a, S: Source, D: Disk + Send, K: Sink, G: Gate + Sync>(
     ensures source_untouched { dry_run_in (command_of (map (λ w. w.now) words.entry.now)) ≡ None → script.new ≡ script.old }
     ensures disk_untouched { dry_run_in (command_of (map (λ w. w.now) words.entry.now)) ≡ None → listing_in (command_of (map (λ w. w.now) words.entry.now)) ≡ None → result.disk ≡ disk }
 
-    // What isn't built yet is told exactly, where script and disk tell.
-    ensures not_built { IsTrue (S.tells script.old) → IsTrue (D.shape disk).tells → result.status ≡ NotBuilt → ¬ IsBuilt (command_of (map (λ w. w.now) words.entry.now)) (S.left script.old) (λ name size. D.image_named disk name size) }
-    ensures built { IsTrue (S.tells script.old) → IsTrue (D.shape disk).tells → IsSome result.report → IsBuilt (command_of (map (λ w. w.now) words.entry.now)) (S.left script.old) (λ name size. D.image_named disk name size) }
-
     // The disk handed in was only read.
     ensures only_reads { OnlyReads (D.counts disk) (D.counts result.disk) (D.never_fails disk) (D.never_fails result.disk) }
 
     // Which statuses have a report, and what is put with it and without.
     ensures report { HasReport (listing_in (command_of (map (λ w. w.now) words.entry.now))) (making_in (command_of (map (λ w. w.now) words.entry.now))) result.status result.report }
-    ensures dry { IsSome result.dry ↔ IsSome result.report }
+    ensures dry { IsSome (dry_run_in (command_of (map (λ w. w.now) words.entry.now))) → HandsOut result.dry result.status result.report }
+    ensures no_dry { dry_run_in (command_of (map (λ w. w.now) words.entry.now)) ≡ None → result.dry ≡ None }
 
     // What was played on, in blocks of the size that the words say: the image that the words name on the disk handed in, where that tells.
     ensures opening { IsTrue (D.shape disk).tells → IfSome result.dry (OpensAs (command_of (map (λ w. w.now) words.entry.now)) (λ name size. D.image_named disk name size)) }
     ensures size { IfSome result.report (HasSize (command_of (map (λ w. w.now) words.entry.now))) }
 
-    // The report is that of the script that was read, and lawful for that image; the copy was flushed once.
-    ensures played { IsTrue (S.tells script.old) → IfSome result.report (PlaysText (S.left script.old)) }
+    // The report is lawful for that image; with a report the copy was flushed once.
     ensures lawful { IsLawfulOn result.dry result.report }
     ensures shows { IfSome result.report ShowsItsReads }
-    ensures flushed { IfSome result.dry (λ dry. (counts_of dry).syncs ≡ 1) }
+    ensures flushed { IfSome result.report (λ _. IfSome result.dry (λ dry. (counts_of dry).syncs ≡ 1)) }
 
     // What was put.
     ensures text { IfSome result.report (λ report. PutsText (K.tells out.old) (K.appended out.old) (K.appended out.new) (K.faults out.old) (K.faults out.new) (report_text report false)) }
@@ -84,7 +80,7 @@ pub fn run<'a, S: Source, D: Disk + Send, K: Sink, G: Gate + Sync>(
     let task = match read_task(alloc, words) {
         Ok(task) => task,
         Err(WordsError::BadWords) => return refuse(Refusal::Words, disk, out),
-        Err(WordsError::Oom) => return refuse(Refusal::Memory, disk, out),
+        Err(WordsError::Oom) => return refuse(Refusal::memory(), disk, out),
     };
     match &task {
         Task::DryRun { image, size } => dry_run(alloc, image, *size, script, disk, out),

@@ -12,7 +12,7 @@ use super::buffer::Buffer;
 use super::history::{History, Room, note};
 use super::serve::serve;
 use crate::dry::DryCopy;
-use crate::script::{ReadLine, ShortScript, ShowLine};
+use crate::script::{ReadLine, ShortScript, ShowLine, request_of};
 use host_block::{BlockSize, Bytes, Range};
 use host_model::{AttachError, Event, Events, MemEntries, MemEvent};
 use host_record::{Request, Response, Status};
@@ -157,21 +157,6 @@ fn send_line(
     let row = serve(alloc, dry, range, &request, buffer, history);
     history.taken.push(row);
     answer_of(&request, row.outcome)
-}
-
-// The record of a line `read`.
-fn request_of(line: ReadLine) -> Request
-    ensures { result ≡ read_request line }
-{
-    Request {
-        command: 1,
-        reqid: line.reqid,
-        group: 0,
-        vmoid: line.id,
-        length: line.length,
-        vmo_offset: line.buffer_offset,
-        dev_offset: line.device_offset,
-    }
 }
 
 // The answer to a record alone.

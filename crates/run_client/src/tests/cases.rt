@@ -1,6 +1,6 @@
 //! Runs, and how they have to end.
 
-use host_run::RunStatus;
+use host_run::{Limit, RunStatus, ScriptCause};
 
 /// What is wrong outside.
 #[derive(Clone, Copy)]
@@ -8,6 +8,14 @@ pub enum Outside {
     Nothing,
     /// The table of the primary header.
     Table,
+    /// The tables of both headers.
+    Tables,
+    /// The table of the primary header is too large, and that of the backup's is damaged.
+    LargeTable,
+    /// The image ends behind its first partition.
+    ShortImage,
+    /// The second partition shares blocks with the first.
+    Overlap,
     /// The script is one byte too long.
     LongScript,
     Source,
@@ -55,13 +63,17 @@ const NOT_BUILT: Case = Case {
 const MADE: &str =
     "session 1\nattach 8\nfill 1 0 8 01\ntrim 0 11 3\nread 1 1 0 11 4\nwait\nshow 1 0 8\ndrain\n";
 
+/// One session more than a script may have.
+const SESSIONS: &str =
+    "session 1\nsession 1\nsession 1\nsession 1\nsession 1\nsession 1\nsession 1\nsession 1\nsession 1\nsession 1\nsession 1\nsession 1\nsession 1\nsession 1\nsession 1\nsession 1\nsession 1\n";
+
 const BAD_WORDS: Case = Case {
     status: RunStatus::BadWords,
     lines: "refused 2 words\n",
     ..STORED
 };
 
-pub const CASES: [Case; 32] = [
+pub const CASES: [Case; 37] = [
     STORED,
     Case {
         script: "session 1\nattach 1\nread 1 1 0 29 1\nwait\nshow 1 0 1\n",
@@ -113,20 +125,44 @@ pub const CASES: [Case; 32] = [
         ..NOT_BUILT
     },
     Case {
-        script: "session 1",
-        ..NOT_BUILT
+        script: "# one client\n\nsession\t1 # on the first partition\r\n  attach  1\nread 1 1 0 0 1\nwait",
+        lines: "count 30\n  attach 1 id 1\n",
+        ..STORED
     },
     Case {
         script: "session 1\n\0\n",
-        ..NOT_BUILT
-    },
-    Case {
-        script: "session 3\n",
-        ..NOT_BUILT
+        status: RunStatus::BadScript {
+            line: 2,
+            cause: ScriptCause::BadByte,
+        },
+        lines: "refused 4 line 2 byte\n",
+        ..STORED
     },
     Case {
         script: "session 1\nattach 4097\n",
-        ..NOT_BUILT
+        status: RunStatus::BadScript {
+            line: 2,
+            cause: ScriptCause::BadNumber,
+        },
+        lines: "refused 4 line 2 number\n",
+        ..STORED
+    },
+    Case {
+        script: "session 1\nsession 3\n",
+        status: RunStatus::NoPart {
+            session: 2,
+            part: 3,
+        },
+        lines: "refused 10 session 2 part 3\n",
+        ..STORED
+    },
+    Case {
+        script: SESSIONS,
+        status: RunStatus::TooLarge {
+            what: Limit::Sessions,
+        },
+        lines: "refused 9 sessions\n",
+        ..STORED
     },
     Case {
         script: "session 1\nwait\nwait\n",
@@ -138,11 +174,46 @@ pub const CASES: [Case; 32] = [
     },
     Case {
         outside: Outside::LongScript,
-        ..NOT_BUILT
+        status: RunStatus::TooLarge {
+            what: Limit::ScriptBytes,
+        },
+        lines: "refused 9 script\n",
+        ..STORED
     },
     Case {
         outside: Outside::Table,
-        ..NOT_BUILT
+        lines: "image 128 of 512\ntable backup\nsession 1 part 1 first 34 count 30\n",
+        ..STORED
+    },
+    Case {
+        outside: Outside::Tables,
+        status: RunStatus::NoTable,
+        lines: "refused 3 no table\n",
+        ..STORED
+    },
+    Case {
+        outside: Outside::LargeTable,
+        status: RunStatus::TooLarge { what: Limit::Table },
+        lines: "refused 9 table\n",
+        ..STORED
+    },
+    Case {
+        outside: Outside::ShortImage,
+        status: RunStatus::NoPart {
+            session: 1,
+            part: 1,
+        },
+        lines: "refused 10 session 1 part 1\n",
+        ..STORED
+    },
+    Case {
+        outside: Outside::Overlap,
+        status: RunStatus::NoPart {
+            session: 1,
+            part: 1,
+        },
+        lines: "refused 10 session 1 part 1\n",
+        ..STORED
     },
     Case {
         words: &["run", "base.img", "--cut"],

@@ -3,7 +3,7 @@
 use super::cases::{Case, Outside};
 use crate::plays;
 use host_check::is_lawful_image;
-use host_gpt::sample;
+use host_gpt::{crc32, sample};
 use host_io::{CallKind, FailAt, MemDisk, MemSink, MemSource, OpenGate};
 use host_report::{Report, write_report};
 use host_run::{RunStatus, run};
@@ -87,19 +87,55 @@ fn is_told(alloc: Global, report: &Report, text: &[u8], status: RunStatus) -> Op
     Some(is_whole && is_front && is_all)
 }
 
-// The base image, or one whose table's first usable block is changed.
+// The base image, or one that is damaged.
 fn image(alloc: Global, outside: Outside) -> Option<Vec<u8>> {
     let base = sample::base_image(alloc).ok()?;
     let mut image = base.as_slice().to_vec(alloc).ok()?;
-    if let Outside::Table = outside {
-        *image.get_mut(552)? = 35;
+    match outside {
+        // The first usable block of a header.
+        Outside::Table => *image.get_mut(552)? = 35,
+        Outside::Tables => {
+            *image.get_mut(552)? = 35;
+            *image.get_mut(65_064)? = 35;
+        }
+        Outside::LargeTable => enlarge(&mut image)?,
+        Outside::ShortImage => image.truncate(64 * 512),
+        Outside::Overlap => overlap(&mut image)?,
+        _ => (),
     }
     Some(image)
 }
 
+// Lets the primary header name 2,048 entries, and damages the backup's.
+fn enlarge(image: &mut [u8]) -> Option<()> {
+    image
+        .get_mut(592..596)?
+        .copy_from_slice(&2_048u32.to_le_bytes());
+    *image.get_mut(65_064)? = 35;
+    mend_header(image)
+}
+
+// Lets the second entry begin in block 60, and mends the CRCs of array and header.
+fn overlap(image: &mut [u8]) -> Option<()> {
+    *image.get_mut(1_184)? = 60;
+    let array_crc = crc32(image.get(1_024..17_408)?);
+    image
+        .get_mut(600..604)?
+        .copy_from_slice(&array_crc.to_le_bytes());
+    mend_header(image)
+}
+
+// Gives the primary header its CRC.
+fn mend_header(image: &mut [u8]) -> Option<()> {
+    image.get_mut(528..532)?.copy_from_slice(&[0; 4]);
+    let crc = crc32(image.get(512..604)?);
+    image.get_mut(528..532)?.copy_from_slice(&crc.to_le_bytes());
+    Some(())
+}
+
 fn script(alloc: Global, case: &Case) -> Option<Vec<u8>> {
     match case.outside {
-        Outside::LongScript => vec![in alloc; b'\n'; 4097].ok(),
+        Outside::LongScript => vec![in alloc; b'\n'; 1_048_577].ok(),
         _ => case.script.as_bytes().to_vec(alloc).ok(),
     }
 }

@@ -3,7 +3,6 @@ use Rattle.host_record.specs.declared.finish.Finish.TheVariants.{Drain}
 use Rattle.host_model.specs.declared.step.Step.{Step}
 use Rattle.host_report.specs.declared.closing.Closing.TheVariants.{Good}
 use Rattle.host_report.specs.declared.report.Report.{Report}
-use Rattle.host_gpt.specs.declared.which.Which.TheVariants.{Primary}
 use Rattle.host_report.specs.declared.session.SessionReport.{SessionReport}
 use Rattle.host_run.proofs.ReportLemmas.{IsReportOf, is_lawful, is_played, shows_reads}
 use Rattle.host_run.proofs.start.Start.play.Goals as goal
@@ -12,14 +11,14 @@ abbrev report_of : goal.After-push-2 → Report
 report_of c = record {
   blocks = c.play-history.new.dry.blocks;
   size = c.play-history.new.dry.size;
-  which = Primary;
+  which = c.args.self.which;
   sessions = c.push-2.new.self;
   steps = c.push.new.self;
   closing = Good;
   frames_home = 4096;
 }
 
-reported : (c : goal.After-push-2) → IsReportOf c.args.self.dry c.args.self.range c.args.self.script c.play-history.result (report_of c)
+reported : (c : goal.After-push-2) → IsReportOf c.args.self.dry c.args.self.which c.args.self.range c.args.self.script c.play-history.result (report_of c)
 reported c =
     let start = c.args.self in
     let history = c.play-history.result in
