@@ -25,7 +25,7 @@ use Rattle.session_law.proofs.Lending.{attached_times, eq_flip}
 
 -- ---- counts
 
-released_times : (v : ℕ) (h : List MemEvent) → times v (released h) ≡ count (is_release_of v) h
+pub released_times : (v : ℕ) (h : List MemEvent) → times v (released h) ≡ count (is_release_of v) h
 released_times v [] = refl
 released_times v (Release id ∷ h) = step (id == v) (nat_eq v id) (eq_flip id v) (released_times v h)
   where
@@ -37,7 +37,7 @@ released_times v (Release id ∷ h) = step (id == v) (nat_eq v id) (eq_flip id v
     step false false e g = g
 released_times v (_ ∷ h) = released_times v h
 
-given_times : (v : ℕ) (h : List MemEvent) → count (is_given_by v) h ≡ length (filter_map (attachment_by v) h)
+pub given_times : (v : ℕ) (h : List MemEvent) → count (is_given_by v) h ≡ length (filter_map (attachment_by v) h)
 given_times v [] = refl
 given_times v (Attach id pages from ∷ h) = step (id == v) (given_times v h)
   where

@@ -15,16 +15,17 @@ use Rattle.host_session.specs.declared.hand.SessionHand.{SessionHand}
 use Rattle.host_session.specs.Acts.{Act, IsEventAfter, log_of}
 use Rattle.host_session.specs.Client.{ClientState}
 use Rattle.host_session.specs.Counting.{due_records}
+use Rattle.host_session.specs.Endings.{IsDrainedLog, is_received}
 use Rattle.host_session.proofs.Counting.{counting_tells}
-use Rattle.session_law.specs.Draining.{DrainsComeLast, IsDrainedLog, is_answer}
+use Rattle.session_law.specs.Draining.{DrainsComeLast}
 use Rattle.session_law.specs.Gathered.{IsGathered}
 use Rattle.session_law.specs.Handing.{PushedAsTold}
 use Rattle.session_law.proofs.Due.{acts_of, answered, are_answered, filter_few}
 use Rattle.session_law.proofs.Finding.{from_map}
-use Rattle.session_law.proofs.Gathered.{course, log_same}
+use Rattle.session_law.proofs.Gathered.{closed, course, log_same}
 
 -- answers send nothing, and each is received
-answers_only : (rest : List Event) → list_all is_answer rest ≡ true → (sent rest ≡ []) × (length (received rest) ≡ length rest)
+answers_only : (rest : List Event) → list_all is_received rest ≡ true → (sent rest ≡ []) × (length (received rest) ≡ length rest)
 answers_only [] e = (refl, refl)
 answers_only (Received bytes ∷ rest) e = let r = answers_only rest e in (r.0, ap suc r.1)
 answers_only (Attached pages id ∷ rest) e = absurd (cc)
@@ -77,4 +78,4 @@ module _ (client : ClientState) (hands : List SessionHand) (h : List MemEntry) (
   ends_so = (d.before, d.split ∙ ap (λ l. d.before ++ Drained ∷ l) (nothing d.rest rest_none))
 
 pub drains_come_last : DrainsComeLast
-drains_come_last client hands h s g told follow e = ends_so client hands h s g told (follow e)
+drains_come_last client hands h s g told e = ends_so client hands h s g told (g.whole.client_of.kept.ended.drained e (closed client hands h s g))

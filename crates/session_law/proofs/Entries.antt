@@ -22,7 +22,7 @@ use Rattle.host_model.specs.RecordEntries.{entries_for, entries_owed, entry_of, 
 use Rattle.host_memory.specs.State.{events}
 use Rattle.host_turn.specs.History.{entries_of}
 use Rattle.host_intake.specs.Takings.{made_for, made_under, under}
-use Rattle.session_law.specs.Carrying.{moves_by, moves_owed}
+use Rattle.host_session.specs.Moves.{moves_by, moves_owed}
 use Rattle.session_law.proofs.Finding.{from_filter}
 use Rattle.session_law.proofs.Places.{from_drop, from_take, in_front, within}
 

@@ -13,7 +13,8 @@ use Rattle.host_rings.specs.declared.slip.Slip.{Slip}
 use Rattle.host_rings.specs.Slips.{AllBelow, ComeFrom, Marked, sent_by, slips}
 use Rattle.host_session.specs.declared.hand.SessionHand.{SessionHand}
 use Rattle.host_session.proofs.Snoc.{filter_none, filter_one, found_none, found_one}
-use Rattle.session_law.specs.Handing.{PushedAsTold, handed, handed_by, handed_on}
+use Rattle.host_session.specs.Handed.{handed_by, slip_by, slip_in}
+use Rattle.session_law.specs.Handing.{PushedAsTold}
 use Rattle.session_law.proofs.Sums.{bit, count_both, count_one, count_option, hits, only_at_one, sum_below, sum_both, sum_few, sum_none, sum_one, sum_one_few, sum_same}
 
 -- the answers that records' ends made due
@@ -32,21 +33,21 @@ module _ (p : Slip → Bool) where
   some_is true o = refl
   some_is false o = refl
 
-  handed_is : (n : ℕ) (before : List IntakeEntry) (e : IntakeEntry) → hits p (handed n before e) ≡ only_at_one (maker_of e) (hits p (handed_on before e)) n
-  handed_is n before e = some_is (maker_of e == n) (handed_on before e)
+  handed_is : (n : ℕ) (before : List IntakeEntry) (e : IntakeEntry) → hits p (slip_by n before e) ≡ only_at_one (maker_of e) (hits p (slip_in before e)) n
+  handed_is n before e = some_is (maker_of e == n) (slip_in before e)
 
-  all_hands : (n : ℕ) (before es : List IntakeEntry) → sum_below n (λ k. count p (map_after (handed k) before es)) ≤ count p (map_after handed_on before es)
+  all_hands : (n : ℕ) (before es : List IntakeEntry) → sum_below n (λ k. count p (map_after (slip_by k) before es)) ≤ count p (map_after slip_in before es)
   all_hands n before [] = let z = sum_none n in omega arith
   all_hands n before (e ∷ es) =
-      let c : ℕ = hits p (handed_on before e) in
-      let split : sum_below n (λ k. count p (map_after (handed k) before (e ∷ es))) ≡ sum_below n (λ k. only_at_one (maker_of e) c k + count p (map_after (handed k) (before ++ e ∷ []) es)) =
-      sum_same n (λ k. count p (map_after (handed k) before (e ∷ es))) (λ k. only_at_one (maker_of e) c k + count p (map_after (handed k) (before ++ e ∷ []) es))
-      (λ k _. count_option p (handed k before e) (map_after (handed k) (before ++ e ∷ []) es) ∙ ap (λ x. x + count p (map_after (handed k) (before ++ e ∷ []) es)) (handed_is k before e)) in
-      let both : sum_below n (λ k. only_at_one (maker_of e) c k + count p (map_after (handed k) (before ++ e ∷ []) es)) ≡ sum_below n (only_at_one (maker_of e) c) + sum_below n (λ k. count p (map_after (handed k) (before ++ e ∷ []) es)) =
-      sum_both n (only_at_one (maker_of e) c) (λ k. count p (map_after (handed k) (before ++ e ∷ []) es)) in
+      let c : ℕ = hits p (slip_in before e) in
+      let split : sum_below n (λ k. count p (map_after (slip_by k) before (e ∷ es))) ≡ sum_below n (λ k. only_at_one (maker_of e) c k + count p (map_after (slip_by k) (before ++ e ∷ []) es)) =
+      sum_same n (λ k. count p (map_after (slip_by k) before (e ∷ es))) (λ k. only_at_one (maker_of e) c k + count p (map_after (slip_by k) (before ++ e ∷ []) es))
+      (λ k _. count_option p (slip_by k before e) (map_after (slip_by k) (before ++ e ∷ []) es) ∙ ap (λ x. x + count p (map_after (slip_by k) (before ++ e ∷ []) es)) (handed_is k before e)) in
+      let both : sum_below n (λ k. only_at_one (maker_of e) c k + count p (map_after (slip_by k) (before ++ e ∷ []) es)) ≡ sum_below n (only_at_one (maker_of e) c) + sum_below n (λ k. count p (map_after (slip_by k) (before ++ e ∷ []) es)) =
+      sum_both n (only_at_one (maker_of e) c) (λ k. count p (map_after (slip_by k) (before ++ e ∷ []) es)) in
       let one : sum_below n (only_at_one (maker_of e) c) ≤ c = sum_one_few n (maker_of e) c in
-      let rest : sum_below n (λ k. count p (map_after (handed k) (before ++ e ∷ []) es)) ≤ count p (map_after handed_on (before ++ e ∷ []) es) = all_hands n (before ++ e ∷ []) es in
-      let whole : count p (map_after handed_on before (e ∷ es)) ≡ c + count p (map_after handed_on (before ++ e ∷ []) es) = count_option p (handed_on before e) (map_after handed_on (before ++ e ∷ []) es) in
+      let rest : sum_below n (λ k. count p (map_after (slip_by k) (before ++ e ∷ []) es)) ≤ count p (map_after slip_in (before ++ e ∷ []) es) = all_hands n (before ++ e ∷ []) es in
+      let whole : count p (map_after slip_in before (e ∷ es)) ≡ c + count p (map_after slip_in (before ++ e ∷ []) es) = count_option p (slip_in before e) (map_after slip_in (before ++ e ∷ []) es) in
       omega (arith, split, both, one, rest, whole)
 
   -- ---- what is kept
@@ -82,7 +83,7 @@ module _ (p : Slip → Bool) where
     none_few n l b = omega arith
 
     -- an entry hands on or keeps no more than was kept and than it made due
-    step : (e : IntakeEntry) → hits p (handed_on before e) + count p (kept_slips (before ++ e ∷ [])) ≤ count p (kept_slips before) + hits p (made_due e)
+    step : (e : IntakeEntry) → hits p (slip_in before e) + count p (kept_slips (before ++ e ∷ [])) ≤ count p (kept_slips before) + hits p (made_due e)
     step (Took hand envelope verdict waits seen) = let k = ap (count p) (same_kept (Took hand envelope verdict waits seen) refl refl refl) in omega arith
     step (Landed hand index end answer false) = let k = ap (count p) (same_kept (Landed hand index end answer false) refl refl refl) in omega arith
     step (Landed hand index end answer true) =
@@ -147,17 +148,17 @@ module _ (p : Slip → Bool) where
   due_step (Passed hand) es = omega arith
   due_step (Turned hand phase) es = omega arith
 
-  all_due : (before es : List IntakeEntry) → count p (map_after handed_on before es) + count p (kept_slips (before ++ es)) ≤ count p (kept_slips before) + count p (answers_of (landings es))
+  all_due : (before es : List IntakeEntry) → count p (map_after slip_in before es) + count p (kept_slips (before ++ es)) ≤ count p (kept_slips before) + count p (answers_of (landings es))
   all_due before [] = let e = ap (λ l. count p (kept_slips l)) (append-nil before) in omega arith
   all_due before (e ∷ es) =
       let same : (before ++ e ∷ []) ++ es ≡ before ++ e ∷ es = append_assoc before (e ∷ []) es in
       let k : count p (kept_slips ((before ++ e ∷ []) ++ es)) ≡ count p (kept_slips (before ++ e ∷ es)) = ap (λ l. count p (kept_slips l)) same in
       let rest = all_due (before ++ e ∷ []) es in
       let one = step before e in
-      let c : count p (map_after handed_on before (e ∷ es)) ≡ hits p (handed_on before e) + count p (map_after handed_on (before ++ e ∷ []) es) = count_option p (handed_on before e) (map_after handed_on (before ++ e ∷ []) es) in
+      let c : count p (map_after slip_in before (e ∷ es)) ≡ hits p (slip_in before e) + count p (map_after slip_in (before ++ e ∷ []) es) = count_option p (slip_in before e) (map_after slip_in (before ++ e ∷ []) es) in
       omega (arith, k, rest, one, c, due_step e es)
 
-  pub handed_due : (es : List IntakeEntry) → count p (map_after handed_on [] es) ≤ count p (answers_of (landings es))
+  pub handed_due : (es : List IntakeEntry) → count p (map_after slip_in [] es) ≤ count p (answers_of (landings es))
   handed_due es = let a = all_due [] es in omega arith
 
   -- ---- what came through the ring

@@ -26,11 +26,13 @@ use Rattle.host_intake.specs.Takings.{made, made_for, made_under}
 use Rattle.host_intake.specs.Told.{row_in}
 use Rattle.host_session.specs.declared.hand.SessionHand.{SessionHand}
 use Rattle.host_session.specs.Client.{ClientState}
-use Rattle.session_law.specs.Carrying.{IsCarried, moves_for, moves_owed}
+use Rattle.host_session.specs.Moves.{moves_for, moves_owed}
+use Rattle.session_law.specs.Carrying.{IsCarried}
 use Rattle.session_law.specs.Gathered.{IsGathered}
 use Rattle.session_law.specs.Hands.{Ended}
 use Rattle.session_law.specs.Lawful.{AreKept, SessionsAreLawful}
 use Rattle.session_law.proofs.Buffers.{told_so}
+use Rattle.session_law.proofs.Draining.{drains_come_last}
 use Rattle.session_law.proofs.Due.{all_landed, due_so}
 use Rattle.session_law.proofs.Entries.{entries_are, owed}
 use Rattle.session_law.proofs.Finding.{from_filter, in_map}
@@ -67,7 +69,7 @@ module _ (client : ClientState) (hands : List SessionHand) (h : List MemEntry) (
 
   taken_at : (i : ℕ) → i < length s.rows → IsTaken i
   taken_at i lt =
-      let n = row_count client hands h s g k.drained k.fronts.releases in
+      let n = row_count client hands h s g (drains_come_last client hands h s g k.pushed) k.fronts.releases in
       let t = some_at ts i (omega (arith, n, lt)) in
       let l = landing_at ts ls g.whole.intake.cell_seat (all_landed client hands h s g k.pushed) i (omega (arith, n, lt)) in
       let there : slice_get s.rows i ≡ Some (row_in ls t.0) = ap (λ r. slice_get r i) g.whole.rows_are ∙ in_map (row_in ls) ts i t.0 t.1 in
@@ -116,12 +118,12 @@ module _ (client : ClientState) (hands : List SessionHand) (h : List MemEntry) (
     pub where_is : ((e.hand ≡ taking.hand) × (taking.seen + length (made taking) ≤ p)) ⊎ ((e.hand ≡ client.plan.hands + 1) × (p ≡ taking.seen) × (0 < length (made taking)))
 
   entry_taken : (p i : ℕ) (e : MemEntry) → slice_get h p ≡ Some e → index_of e.what ≡ Some i → IsEntryOf p i e
-  entry_taken p i e at is = step (hand_is client hands h s g k.drained k.fronts.releases p e at)
+  entry_taken p i e at is = step (hand_is client hands h s g (drains_come_last client hands h s g k.pushed) k.fronts.releases p e at)
     where
       step : (e.hand < client.plan.hands) ⊎ ((e.hand ≡ client.plan.hands) ⊎ (e.hand ≡ client.plan.hands + 1)) → IsEntryOf p i e
       step (inl hand) = let m = k.fronts.moves_done p i e at hand is in record { taking = m.taking; stands = m.stands; where_is = inl (sym m.by, m.behind) }
-      step (inr (inl hand)) = absurd (client_none client hands h s g k.drained k.fronts.releases p i e at hand is)
-      step (inr (inr hand)) = let o = own_entry client hands h s g k.drained k.fronts.releases p i e at hand is in record { taking = o.0; stands = o.1; where_is = inr (hand, o.2, o.3) }
+      step (inr (inl hand)) = absurd (client_none client hands h s g (drains_come_last client hands h s g k.pushed) k.fronts.releases p i e at hand is)
+      step (inr (inr hand)) = let o = own_entry client hands h s g (drains_come_last client hands h s g k.pushed) k.fronts.releases p i e at hand is in record { taking = o.0; stands = o.1; where_is = inr (hand, o.2, o.3) }
 
   module _ (i : ℕ) (t : Taking) (stands : slice_get ts i ≡ Some t) where
     split_at : (p : ℕ) (e : MemEntry) → slice_get h p ≡ Some e → index_of e.what ≡ Some i → ((e.hand ≡ t.hand) × (t.seen + length (made t) ≤ p)) ⊎ ((e.hand ≡ client.plan.hands + 1) × (p ≡ t.seen) × (0 < length (made t)))
@@ -164,7 +166,7 @@ module _ (client : ClientState) (hands : List SessionHand) (h : List MemEntry) (
       let owes : entries_of i s.memory ≡ entries_owed t.verdict l.end.outcome i (request_in t) (steps_of i s.steps) (entries_of i s.memory) =
       owed l.end.outcome i (request_in t) t.hand (steps_of i s.steps) (entries_of i s.memory) (moves_for t.hand i h) t.verdict t.waits all moved in
       let verdict : t.verdict ≡ (row_at s.rows i).verdict = ap (λ (r : TakenRow). r.verdict) (sym x.row) in
-      let asks : request_in t ≡ request_at (requests s.log) i = sym (request_is client hands h s g k.drained k.fronts.releases i t x.stands) in
+      let asks : request_in t ≡ request_at (requests s.log) i = sym (request_is client hands h s g (drains_come_last client hands h s g k.pushed) k.fronts.releases i t x.stands) in
       owes
       ∙ (ap (λ v. entries_owed v l.end.outcome i (request_in t) (steps_of i s.steps) (entries_of i s.memory)) verdict
       ∙ (ap (λ o. entries_owed (row_at s.rows i).verdict o i (request_in t) (steps_of i s.steps) (entries_of i s.memory)) (sym x.outcome)
@@ -179,7 +181,7 @@ module _ (client : ClientState) (hands : List SessionHand) (h : List MemEntry) (
           let x = entry_at h p w (ap (λ l. slice_get l p) (sym g.memory) ∙ at) in
           let r = entry_taken p i x.0 x.1 (ap index_of x.2 ∙ e) in
           let a = within ts i r.taking r.stands in
-          let n = row_count client hands h s g k.drained k.fronts.releases in
+          let n = row_count client hands h s g (drains_come_last client hands h s g k.pushed) k.fronts.releases in
           lt-ltb i (length s.rows) (omega (arith, a, n))
 
   pub have_entries : HaveEntries s
@@ -191,7 +193,7 @@ module _ (client : ClientState) (hands : List SessionHand) (h : List MemEntry) (
       let t : Taking = x.taking in
       let l : Landing = x.landing in
       let verdict : t.verdict ≡ (row_at s.rows i).verdict = ap (λ (r : TakenRow). r.verdict) (sym x.row) in
-      let asks : request_in t ≡ request_at (requests s.log) i = sym (request_is client hands h s g k.drained k.fronts.releases i t x.stands) in
+      let asks : request_in t ≡ request_at (requests s.log) i = sym (request_is client hands h s g (drains_come_last client hands h s g k.pushed) k.fronts.releases i t x.stands) in
       let same : asked t.verdict client.plan.spec.part (request_in t) ≡ asked_in s i =
       ap (λ v. asked v client.plan.spec.part (request_in t)) verdict ∙ (ap (λ p. asked (row_at s.rows i).verdict p (request_in t)) (sym g.range) ∙ ap (asked (row_at s.rows i).verdict s.range) asks) in
       let done : carries_out (asked t.verdict client.plan.spec.part (request_in t)) (steps_of i s.steps) ≡ true = subst (λ j. carries_out (asked t.verdict client.plan.spec.part (request_in t)) (steps_of j s.steps) ≡ true) x.ended.2 x.carried.carried in
@@ -209,7 +211,7 @@ module _ (client : ClientState) (hands : List SessionHand) (h : List MemEntry) (
         let f = from_filter (λ (step : Step). step.session == client.plan.spec.number) steps n x (ap (λ l. slice_get l n) (sym k.steps_are) ∙ at) in
         let d = k.fronts.steps_done f.0 x f.1 (eqb-true x.session client.plan.spec.number f.2) in
         let a = within ts x.index d.taking d.stands in
-        let m = row_count client hands h s g k.drained k.fronts.releases in
+        let m = row_count client hands h s g (drains_come_last client hands h s g k.pushed) k.fronts.releases in
         lt-ltb x.index (length s.rows) (omega (arith, a, m)));
   }
 
@@ -221,16 +223,16 @@ module _ (client : ClientState) (hands : List SessionHand) (h : List MemEntry) (
         pages = b.pages;
         records = have_entries;
         releases = b.releases;
-        used = used_so client hands h s g k.drained k.fronts.releases k.found;
+        used = used_so client hands h s g (drains_come_last client hands h s g k.pushed) k.fronts.releases g.whole.client_of.told.found;
       }
 
   pub lawful : IsLawfulSession s
   lawful = record {
-    taken = in_order client hands h s g k.drained k.fronts.releases;
+    taken = in_order client hands h s g (drains_come_last client hands h s g k.pushed) k.fronts.releases;
     carried = carried_out;
     answered = due_so client hands h s g k.pushed;
     buffers = buffers_are;
-    ordered = order_kept client hands h steps s g k.drained k.pushed k.fronts k.steps_are;
+    ordered = order_kept client hands h steps s g k.pushed k.fronts k.steps_are;
   }
 
 pub sessions_are_lawful : SessionsAreLawful

@@ -35,6 +35,7 @@ use Rattle.session_law.specs.Handing.{PushedAsTold}
 use Rattle.session_law.specs.Hands.{Ended, KeepFronts, steps_in}
 use Rattle.session_law.specs.Ordering.{OrderKept}
 use Rattle.session_law.proofs.Closers.{IsClosing}
+use Rattle.session_law.proofs.Draining.{drains_come_last}
 use Rattle.session_law.proofs.Due.{all_landed, log_acts}
 use Rattle.session_law.proofs.Finding.{in_map}
 use Rattle.session_law.proofs.Gathered.{course, envelope_at, sent_count, taken_whole}
@@ -301,4 +302,4 @@ module _ (client : ClientState) (hands : List SessionHand) (h : List MemEntry) (
   }
 
 pub order_kept : OrderKept
-order_kept client hands h steps s g drained told keeps steps_are = (order_is_kept s).1 (in_order client hands h steps s g drained told keeps steps_are)
+order_kept client hands h steps s g told keeps steps_are = (order_is_kept s).1 (in_order client hands h steps s g (drains_come_last client hands h s g told) told keeps steps_are)

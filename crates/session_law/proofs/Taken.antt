@@ -35,6 +35,7 @@ use Rattle.host_session.specs.Told.{is_release}
 use Rattle.host_session.proofs.Whole.{map_twice}
 use Rattle.session_law.specs.Gathered.{EndsDrained, IsGathered, ReleaseClosed}
 use Rattle.session_law.specs.Taking.{TakenInOrder}
+use Rattle.session_law.proofs.Draining.{drains_come_last}
 use Rattle.session_law.proofs.Gathered.{closed, course, envelope_at, es_of, front_past, index_is, log_same, requests_are, taken_few, taken_whole, ts_of}
 use Rattle.session_law.proofs.Lending.{attached_once, few_before, is_attached_for, lent_before, lent_by_log}
 use Rattle.session_law.proofs.Places.{any_at, from_take}
@@ -178,4 +179,4 @@ module _ (client : ClientState) (hands : List SessionHand) (h : List MemEntry) (
   }
 
 pub taken_in_order : TakenInOrder
-taken_in_order client hands h s g drained due = in_order client hands h s g drained due
+taken_in_order client hands h s g told due = in_order client hands h s g (drains_come_last client hands h s g told) due

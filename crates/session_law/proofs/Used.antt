@@ -27,9 +27,11 @@ use Rattle.host_session.specs.declared.fronts.Fronts.{Fronts}
 use Rattle.host_session.specs.declared.hand.SessionHand.{SessionHand}
 use Rattle.host_session.specs.Acts.{Act, IsEventAfter, entry_place, has_entry, log_of}
 use Rattle.host_session.specs.Client.{ClientState}
+use Rattle.host_session.specs.Told.{finds_blocks}
 use Rattle.session_law.specs.Fronts.{DoFrontsRise}
 use Rattle.session_law.specs.Gathered.{EndsDrained, IsGathered, ReleaseClosed}
-use Rattle.session_law.specs.Using.{FindBlocks, UsedRightly, finds_blocks}
+use Rattle.session_law.specs.Using.{UsedRightly}
+use Rattle.session_law.proofs.Draining.{drains_come_last}
 use Rattle.session_law.proofs.Finding.{from_map}
 use Rattle.session_law.proofs.Gathered.{course, envelope_at, index_is, log_same, taken_whole, ts_of}
 use Rattle.session_law.proofs.Owners.{IsCloseEntry, close_taken, late_release, released_by_taken}
@@ -49,7 +51,7 @@ all_from test before (x ∷ xs) h =
     (ap (λ l. test l x) (sym (append-nil before)) ∙ h 0 x refl)
     (all_from test (before ++ x ∷ []) xs (λ n y at. ap (λ l. test l y) (append_assoc before (x ∷ []) (take n xs)) ∙ h (suc n) y at))
 
-module _ (client : ClientState) (hands : List SessionHand) (h : List MemEntry) (s : Session) (g : IsGathered client hands h s) (drained : EndsDrained client) (due : ReleaseClosed client.plan.hands h) (find : FindBlocks h) where
+module _ (client : ClientState) (hands : List SessionHand) (h : List MemEntry) (s : Session) (g : IsGathered client hands h s) (drained : EndsDrained client) (due : ReleaseClosed client.plan.hands h) (find : all_with_before finds_blocks (events h) ≡ true) where
   abbrev acts : List Act
   acts = g.whole.client_of.acts
 
@@ -266,4 +268,4 @@ module _ (client : ClientState) (hands : List SessionHand) (h : List MemEntry) (
       event_used n r.0 e r.1 r.2 (subst (λ x. IsEventAfter h (take n acts) r.0 x) r.2 is))
 
 pub used_rightly : UsedRightly
-used_rightly client hands h s g drained due find = used_so client hands h s g drained due find
+used_rightly client hands h s g told due = used_so client hands h s g (drains_come_last client hands h s g told) due g.whole.client_of.told.found
