@@ -1,0 +1,17 @@
+pub mod Lists
+pub mod Histories
+pub mod Visited
+pub mod Rounds
+pub mod Receiving
+pub mod Released
+pub mod Shared
+pub mod Closed
+pub mod Waiting
+pub mod Dealt
+pub mod Opening
+pub mod Starting
+pub mod Taking
+pub mod Unroomed
+pub mod Finishing
+pub mod HowEnded
+pub mod Crossing

@@ -1,0 +1,35 @@
+use Rattle.std.proofs.Common.{Bool, subst}
+use Rattle.host_session.specs.Closing.{IsCloseAnswer}
+use Rattle.host_worker.proofs.Closed.{abort_ends, abort_hand, abort_helped, abort_open, aborting_client, aborts_with}
+use Rattle.host_worker.proofs.ending.abort.Goals as goal
+
+pub loop-init : goal.loop-init
+loop-init g c = (tt, tt, aborts_with c.args.server.now c.args.hand.now c.args.client.now c.finish.new.self c.requires.hand c.vouch.ensures c.requires.may c.finish.ensures)
+
+pub close-requires-clause-client : goal.close-requires-clause-client
+close-requires-clause-client g c = (aborting_client c.args.server.now c.args.hand.now c.args.client.now c.loop.hand c.loop.client c.loop.invariant.2 c.requires.client).0
+
+pub close-requires-clause-ended : goal.close-requires-clause-ended
+close-requires-clause-ended g c = (aborting_client c.args.server.now c.args.hand.now c.args.client.now c.loop.hand c.loop.client c.loop.invariant.2 c.requires.client).1
+
+pub returns-then-close : goal.returns-then-close
+returns-then-close g c =
+    let a = subst (λ (b : Bool). IsCloseAnswer c.loop.client c.close.new.client c.loop.hand.pool_seat c.close.new.hand.pool_seat b) c.if-close.true c.close.ensures.answer in
+    let h = abort_hand c.args.server.now c.args.hand.now c.args.client.now c.loop.hand c.close.new.hand c.loop.client c.close.new.client c.loop.invariant.2 c.close.ensures.hand c.close.ensures.worked in
+    record {
+      hand = h.0;
+      worked = h.1;
+      aborted = abort_ends c.args.server.now c.args.hand.now c.args.client.now c.loop.hand c.close.new.hand c.loop.client c.close.new.client c.loop.invariant.2 a;
+    }
+
+pub turn-requires-clause-hand : goal.turn-requires-clause-hand
+turn-requires-clause-hand g c =
+    let a = subst (λ (b : Bool). IsCloseAnswer c.loop.client c.close.new.client c.loop.hand.pool_seat c.close.new.hand.pool_seat b) c.if-close.false c.close.ensures.answer in
+    let d = abort_open c.args.server.now c.args.hand.now c.args.client.now c.loop.hand c.close.new.hand c.loop.client c.close.new.client c.loop.invariant.2 c.close.ensures.hand a c.close.ensures.worked in
+    d.hand_is
+
+pub loop-preserved : goal.loop-preserved
+loop-preserved g c =
+    let a = subst (λ (b : Bool). IsCloseAnswer c.loop.client c.close.new.client c.loop.hand.pool_seat c.close.new.hand.pool_seat b) c.if-close.false c.close.ensures.answer in
+    let d = abort_open c.args.server.now c.args.hand.now c.args.client.now c.loop.hand c.close.new.hand c.loop.client c.close.new.client c.loop.invariant.2 c.close.ensures.hand a c.close.ensures.worked in
+    (tt, tt, abort_helped c.args.server.now c.args.hand.now c.args.client.now c.close.new.hand c.turn.new.hand c.close.new.client d c.turn.ensures.hand c.turn.ensures.worked)

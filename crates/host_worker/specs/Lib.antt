@@ -1,0 +1,11 @@
+pub mod Accounts
+pub mod Ends
+pub mod Finishes
+pub mod Gathered
+pub mod Hands
+pub mod Laws
+pub mod Servers
+pub mod Shares
+pub mod Starts
+pub mod Turns
+pub mod Waits

@@ -1,0 +1,63 @@
+//! The report is gathered.
+ghost use Rattle.std.specs.Prelude.{◌≡◌, ◌++◌, IsTrue};
+ghost use Rattle.host_device.specs.Faults.{RoseBy, faulted_count};
+ghost use Rattle.host_device.specs.Seen.{KeepsHistory, disk_of, opening_of, shape_of, steps_of};
+ghost use Rattle.host_report.specs.Lawful.{closing_steps};
+ghost use Rattle.host_worker.specs.Gathered.{IsGathered, reported};
+
+use crate::finished::{Ends, Finished};
+use host_block::BlockSize;
+use host_gpt::Which;
+use host_io::Disk;
+use host_report::{Closing, Report};
+use std::snapshot::Snapshot;
+
+/// Says that a report was gathered from a server that was started and finished. It has no other maker.
+#[derive(Drop)]
+pub struct Served {
+    report: Snapshot<Report>,
+}
+
+/// The report of a finished server, and the disk. The closing flush was made on the device as `closing` says. It takes no memory.
+pub fn gather<D: Disk>(
+    finished: Finished<D>,
+    blocks: u64,
+    size: BlockSize,
+    which: Which,
+    closing: Closing,
+) -> (Report, Served, D)
+    requires story { (steps_of finished.device).items ≡ finished.ends.story ++ closing_steps closing }
+    requires size { size ≡ finished.ends.size }
+    ensures gathered { IsGathered finished.ends result.0 }
+    ensures given { (result.0.blocks ≡ blocks) × (result.0.size ≡ size) × (result.0.which ≡ which) × (result.0.closing ≡ closing) }
+    ensures steps { result.0.steps ≡ steps_of finished.device }
+    ensures served { reported result.1 ≡ result.0 }
+    ensures disk { result.2 ≡ disk_of finished.device }
+    ensures told { IsTrue (shape_of finished.device).tells → KeepsHistory finished.device }
+    ensures shape { shape_of finished.device ≡ D.shape (opening_of finished.device) }
+    ensures opening { D.opening (disk_of finished.device) ≡ D.opening (opening_of finished.device) }
+    ensures faults { RoseBy (faulted_count (steps_of finished.device).items) (D.counts (opening_of finished.device)).faults (D.counts (disk_of finished.device)).faults }
+    ensures unfailing { IsTrue (D.never_fails (opening_of finished.device)) → IsTrue (D.never_fails (disk_of finished.device)) × ((D.counts (disk_of finished.device)).faults ≡ (D.counts (opening_of finished.device)).faults) }
+{
+    let Finished { device, ends } = finished;
+    let Ends {
+        sessions,
+        frames_home,
+        ..
+    } = ends;
+    device.keeps_history();
+    let (steps, cache) = device.into_parts();
+    let report = Report {
+        blocks,
+        size,
+        which,
+        sessions,
+        steps,
+        closing,
+        frames_home,
+    };
+    let served = Served {
+        report: Snapshot::of(&report),
+    };
+    (report, served, cache.into_disk())
+}
