@@ -1,0 +1,4 @@
+pub mod Shares
+pub mod Sessions
+pub mod Frames
+pub mod Reports

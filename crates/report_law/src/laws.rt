@@ -1,0 +1,13 @@
+//! Laws over the definitions, each the contract of a function that does nothing.
+ghost use Rattle.report_law.specs.Reports.{GatheredReportsAreLawful};
+ghost use Rattle.report_law.specs.Sessions.{GatheredSessionsAreLawful};
+
+/// Each session of a gathered report is lawful.
+pub fn gathered_sessions_are_lawful()
+    ensures { GatheredSessionsAreLawful }
+{}
+
+/// A gathered report is lawful for an image that its table and its device's history are of.
+pub fn gathered_reports_are_lawful()
+    ensures { GatheredReportsAreLawful }
+{}
