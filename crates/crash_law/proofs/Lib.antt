@@ -1,0 +1,5 @@
+pub mod Places
+pub mod Barriers
+pub mod Accepted
+pub mod Steps
+pub mod Survival
