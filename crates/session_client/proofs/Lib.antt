@@ -1,0 +1,9 @@
+pub mod Own
+pub mod Tasks
+pub mod FixedParts
+pub mod Ending
+pub mod Hands
+pub mod IntakeRows
+mod SessionRows
+pub mod TakenOut
+pub mod ToDo
