@@ -51,11 +51,14 @@ pub record HasSurvived (image : List (List ℕ)) (steps : List Step) (session i 
   pub wrote : WroteBlock steps session i b place
   pub left : WerePutSince steps (length (block_at image b)) b place (block_at after b)
 
--- For a lawful report and an image that a crash may leave after its steps: where the answer to a write or trim was had before
--- a flush was sent, by the log of one client, and both ended well, each of its blocks has survived.
-abbrev pub FlushedWritesSurvive : Type 0
-FlushedWritesSurvive = (image : List (List ℕ)) (report : Report) (left : List (List ℕ)) → IsLawful image report → IsCrashImage image (changes_of report.steps.items) left
-    → (n : ℕ) (e : SessionReport) → slice_get report.sessions.items n ≡ Some e
+-- In this image has survived what was flushed: where the answer to a write or trim was had before a flush was sent, by the log of
+-- one client, and both ended well, each of the blocks that it wrote.
+abbrev pub KeepsFlushed : List (List ℕ) → Report → List (List ℕ) → Type 0
+KeepsFlushed image report left = (n : ℕ) (e : SessionReport) → slice_get report.sessions.items n ≡ Some e
     → (w f : ℕ) (kind : Opcode) → changes_blocks kind ≡ true → IsDone (session_of report e) w kind → IsDone (session_of report e) f Flush → HadBefore (session_of report e) (sending e.log.items f) w
     → (k : ℕ) → k < (request_at (requests e.log.items) w).length
     → HasSurvived image report.steps.items e.number w (e.range.first + (request_at (requests e.log.items) w).dev_offset + k) left
+
+-- of a lawful report, every image that a crash may leave after its steps
+abbrev pub FlushedWritesSurvive : Type 0
+FlushedWritesSurvive = (image : List (List ℕ)) (report : Report) (left : List (List ℕ)) → IsLawful image report → IsCrashImage image (changes_of report.steps.items) left → KeepsFlushed image report left

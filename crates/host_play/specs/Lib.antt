@@ -1,0 +1,9 @@
+pub mod Actors
+pub mod Calls
+pub mod Casts
+pub mod Counts
+pub mod Logs
+pub mod Opened
+pub mod Pieces
+pub mod Plays
+pub mod Stages

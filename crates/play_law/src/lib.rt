@@ -1,0 +1,6 @@
+//! A run over the workers is lawful, by what is known before and after its sessions.
+#![tactic(auto)]
+
+mod laws;
+
+pub use laws::played_runs_are_sound;
