@@ -1,9 +1,9 @@
 -- Lists from their ends.
-use Rattle.std.proofs.Common.{◌≡◌, ℕ, suc, ◌<◌, List, [], ◌∷◌, ◌++◌, length, map, reverse, Option, Some, refl, sym, ap, ◌∙◌, arith}
+use Rattle.std.proofs.Common.{◌≡◌, ℕ, suc, ◌<◌, List, [], ◌∷◌, ◌++◌, length, map, reverse, Option, Some, refl, sym, ap, subst, ◌∙◌, arith}
 use Rattle.std.specs.Prelude.{slice_get, slice_index_or}
 use Rattle.std.specs.List.{AllZip, cons_option, filter_map}
-use Rattle.std.proofs.lemmas.List.{map-append, reverse-append}
-use Rattle.std.proofs.lemmas.List.Elements.{filter_map-append}
+use Rattle.std.proofs.lemmas.List.{map-append, reverse-append, reverse-reverse}
+use Rattle.std.proofs.lemmas.List.Elements.{AllZip-push, filter_map-append}
 
 pub some_same : {A : Type 0} {a b : A} → Some a ≡ Some b → a ≡ b
 some_same h = cc h
@@ -90,3 +90,19 @@ zipped_at R [] [] n h = tt
 zipped_at R [] (y ∷ ys) n h = absurd (omega arith)
 zipped_at R (x ∷ xs) [] n h = absurd (omega arith)
 zipped_at R (x ∷ xs) (y ∷ ys) n h = (h 0 x y refl refl, zipped_at R xs ys (omega arith) (λ k a b at there. h (suc k) a b at there))
+
+-- ---- both turned round
+
+pub zipped_round : {A : Type 0} (R : A → A → Type 0) (xs ys : List A) → AllZip R xs ys → AllZip R (reverse xs) (reverse ys)
+zipped_round R [] [] z = tt
+zipped_round R [] (y ∷ ys) z = absurd z
+zipped_round R (x ∷ xs) [] z = absurd z
+zipped_round R (x ∷ xs) (y ∷ ys) z =
+    let pushed = AllZip-push R (reverse xs) (reverse ys) x y (zipped_round R xs ys z.1) z.0 in
+    subst (λ l. AllZip R l (reverse (y ∷ ys))) (sym (reverse_cons x xs)) (subst (λ l. AllZip R (reverse xs ++ x ∷ []) l) (sym (reverse_cons y ys)) pushed)
+
+-- turned round, changed place by place, and turned back
+pub turned_back : {A : Type 0} (R : A → A → Type 0) (old turned changed new : List A) → turned ≡ reverse old → new ≡ reverse changed → AllZip R turned changed → AllZip R old new
+turned_back R old turned changed new round back z =
+    let same = ap reverse round ∙ reverse-reverse old in
+    subst (λ l. AllZip R old l) (sym back) (subst (λ l. AllZip R l (reverse changed)) same (zipped_round R turned changed z))

@@ -17,8 +17,29 @@ use std::sync::Wait;
 use std::thread;
 use std::thread::Threads;
 
-/// All do their parts, each in a thread of its own.
+/// All do their parts, each in a thread of its own. Where no thread can be made they run one after the other from the last
+/// on, so the clients have to stand last there: they end by themselves, and the workers wait for them.
 pub fn act_all<R: Threads + Wait + Sync, D: Disk + Send, G: Gate + Sync>(
+    rt: &R,
+    alloc: Global,
+    server: &Server<D>,
+    actors: &mut [Actor<D>],
+    script: &Script,
+    gate: &G,
+)
+    requires server { IsServer server.now }
+    requires some { 0 < length actors.old }
+    requires playable { All (λ session. All CanPlay session.lines.items) script.now.sessions.items }
+    requires cast { All (IsCast server.now (plans_of script.now)) actors.old }
+    ensures { AllHavePlayed server.now (plans_of script.now) actors.old actors.new }
+{
+    actors.reverse();
+    act_each(rt, alloc, server, actors, script, gate);
+    actors.reverse();
+}
+
+// Each does its part.
+fn act_each<R: Threads + Wait + Sync, D: Disk + Send, G: Gate + Sync>(
     rt: &R,
     alloc: Global,
     server: &Server<D>,
