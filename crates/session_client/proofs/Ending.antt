@@ -8,7 +8,6 @@ use Rattle.std.proofs.lemmas.Option.{slice_get-get_or}
 use Rattle.atomic_table.specs.Seated.{TableId}
 use Rattle.host_group.specs.declared.seat.CellSeat.{CellSeat}
 use Rattle.host_group.specs.Seats.{IsRightOf, row, seat_cells}
-use Rattle.host_intake.specs.declared.entry.IntakeEntry.{IntakeEntry}
 use Rattle.host_intake.specs.declared.entry.RecordEnd.{RecordEnd}
 use Rattle.host_intake.specs.declared.waiting.Waiting.{Waiting}
 use Rattle.host_intake.specs.Answers.{answer_owed}
@@ -20,7 +19,6 @@ use Rattle.host_intake.specs.State.{IntakeState}
 use Rattle.host_intake.specs.Told.{is_flying}
 use Rattle.host_intake.specs.Waits.{IsOfTaking, IsWaiting, is_waiting_at}
 use Rattle.host_intake.proofs.Flying.{own_flies}
-use Rattle.host_intake.proofs.Membering.{member_index}
 use Rattle.host_intake.proofs.Removing.{past_any}
 use Rattle.host_model.specs.Groups.{is_member}
 use Rattle.host_model.specs.Log.{request_at}
@@ -29,7 +27,7 @@ use Rattle.host_record.specs.Request.{request_of}
 use Rattle.host_rings.specs.declared.envelope.Envelope.{Envelope}
 use Rattle.host_rings.specs.declared.slip.Slip.{Slip}
 use Rattle.session_client.specs.declared.task.Task.{Task}
-use Rattle.session_client.specs.RightUsed.{HaveSettled, MaySettle}
+use Rattle.session_client.specs.RightUsed.{HaveSettled}
 use Rattle.session_client.specs.Tasks.{IsToDo}
 use Rattle.session_client.proofs.Own.{request_taken}
 
@@ -38,11 +36,6 @@ use Rattle.session_client.proofs.Own.{request_taken}
 module _ (cells : TableId) (ts : List Taking) (t : Taking) (i : ℕ) (at : slice_get ts i ≡ Some t) (place : place_of t ≡ i) where
   asked : request_at (requests_of ts) i ≡ request_in t
   asked = request_taken ts i t at
-
-  -- the right may be used for its record
-  pub may_settle : (right : Option CellSeat) → HasRight cells ts t right → MaySettle cells (request_in t).group i right
-  may_settle None h = tt
-  may_settle (Some q) h = (h.1.right_of, h.1.unused, member_index (requests_of ts) (place_of t) (row q).member h.1.member ∙ place)
 
   -- once it was, the record may land
   pub are_settled : (end : RecordEnd) (old new : Option CellSeat) → HasRight cells ts t old → HaveSettled cells (request_in t).group end old new → AreSettled cells (requests_of ts) i end new
@@ -103,9 +96,3 @@ module _ (cells : TableId) (hand : ℕ) (s : IntakeState) (k : IsIntake s) (task
       → answer ≡ answer_owed (request_at (requests_of (takings s.entries)) task.envelope.index) task.envelope.index end new
   settled_answer end new answer a =
       a ∙ ap (λ (r : Request). answer_owed r task.envelope.index end new) (sym (request_taken (takings s.entries) task.envelope.index d.taking d.own.at ∙ read))
-
--- the hand's right may be used for its record
-pub right_to_use : (cells : TableId) (hand : ℕ) (es : List IntakeEntry) (task : Task) → IsToDo cells hand es task → MaySettle cells (request_of task.envelope.bytes).group task.envelope.index task.right
-right_to_use cells hand es task d =
-    subst (λ (r : Request). MaySettle cells r.group task.envelope.index task.right) (ap (λ (e : Envelope). request_of e.bytes) d.own.envelope)
-    (may_settle cells (takings es) d.taking task.envelope.index d.own.at (ap (λ (e : Envelope). e.index) d.own.envelope) task.right d.right)

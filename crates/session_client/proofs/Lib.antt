@@ -1,3 +1,4 @@
+pub mod Crossing
 pub mod Own
 pub mod Tasks
 pub mod FixedParts

@@ -92,3 +92,11 @@ entered_to_do cells hand n es fs story same later is task d =
 -- no record ended as one was taken
 pub landings_taken : (es fs : List IntakeEntry) (t : Taking) → fs ≡ es ++ entry_for t ∷ [] → landings fs ≡ landings es
 landings_taken es fs t now = ap landings now ∙ filter_map_skip landing_of es (entry_for t) refl
+
+-- the same record with another end
+pub ended_to_do : (cells : TableId) (hand : ℕ) (es : List IntakeEntry) (task ended : Task) → IsToDo cells hand es task → (ended.envelope ≡ task.envelope) × (ended.right ≡ task.right) → IsToDo cells hand es ended
+ended_to_do cells hand es task ended d same = record {
+  taking = d.taking;
+  own = subst (λ (e : Envelope). IsOwnOpen hand es e d.taking) (sym same.0) d.own;
+  right = subst (λ (r : Option CellSeat). HasRight cells (takings es) d.taking r) (sym same.1) d.right;
+}

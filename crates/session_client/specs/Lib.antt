@@ -1,3 +1,4 @@
 pub mod Hands
+pub mod Plain
 pub mod RightUsed
 pub mod Tasks

@@ -8,6 +8,7 @@ ghost use Rattle.session_client.specs.declared.task.Task.{Task};
 ghost use Rattle.session_client.specs.Tasks.{IsTakenToDo, IsToDo};
 
 use crate::caller::Caller;
+use crate::judge::Judge;
 use crate::landing::land;
 use crate::round::{Visit, go_round};
 use crate::taking::take;
@@ -134,6 +135,7 @@ impl Desk {
             &mut self.hand,
             &mut self.hand_seat,
             0,
+            &mut Judge::Intake,
         )
     }
 

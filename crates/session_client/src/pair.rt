@@ -7,7 +7,9 @@ ghost use Rattle.session_client.specs.Hands.{IsHandAt, IsSameHand};
 use crate::caller::Caller;
 use crate::deed::Deed;
 use crate::desk::Desk;
-use crate::opening::{Sizes, close_parts, open_desk};
+use crate::judge::Judge;
+use crate::opening::{PART, Sizes, close_parts, open_desk};
+use crate::plain::PlainList;
 use crate::playing::play;
 use crate::round::{Visit, go_round};
 use host_block::Oom;
@@ -20,7 +22,7 @@ use std::sync::Wait;
 use std::thread;
 use std::thread::Threads;
 
-/// Plays a session: its client does these things and ends it so, while a hand serves it in a thread of its own.
+/// Plays a session: its client does these things and ends it so, while a hand serves it in a thread of its own. The hand ends each record as the plain judge says.
 pub fn run_pair<R: Threads + Wait + Sync>(
     rt: &R,
     alloc: Global,
@@ -31,6 +33,9 @@ pub fn run_pair<R: Threads + Wait + Sync>(
     requires frames { 1 ≤ sizes.frames }
     requires depth { (1 ≤ sizes.depth) × (sizes.depth ≤ 128) }
 {
+    let Ok(list) = PlainList::new(alloc, PART, sizes.records, deeds) else {
+        return Err(Oom);
+    };
     let Desk {
         pool,
         shared,
@@ -39,7 +44,16 @@ pub fn run_pair<R: Threads + Wait + Sync>(
         hand_seat,
     } = open_desk(alloc, sizes)?;
     let (caller, hand) = act_both(
-        rt, alloc, &shared, &pool, caller, hand, hand_seat, deeds, how,
+        rt,
+        alloc,
+        &shared,
+        &pool,
+        caller,
+        hand,
+        hand_seat,
+        Judge::Plain(list),
+        deeds,
+        how,
     );
     let Caller { client, .. } = caller;
     close_parts(alloc, shared, client, hand)
@@ -55,6 +69,7 @@ fn act_both<R: Threads + Wait + Sync>(
     caller: Caller,
     hand: SessionHand,
     seat: PoolSeat,
+    judge: Judge,
     deeds: &[Deed],
     how: Finish,
 ) -> (Caller, SessionHand)
@@ -72,7 +87,7 @@ fn act_both<R: Threads + Wait + Sync>(
         || -> SessionHand
             requires { IsHandAt shared.now (pool_id pool.now) 0 hand × (seat_pool seat ≡ pool_id pool.now) }
             ensures { IsSameHand hand result }
-        { serve(rt, shared, pool, hand, seat, 0) },
+        { serve(rt, shared, pool, hand, seat, 0, judge) },
         || -> Caller
             requires { IsShared caller.client.plan shared.now × (caller.client.plan.pool ≡ pool_id pool.now) }
             ensures { IsShared result.client.plan shared.entry.now × (result.client.plan ≡ caller.client.plan) × (result.client.closed ≡ true) }
@@ -90,13 +105,14 @@ fn serve<R: Wait>(
     mut hand: SessionHand,
     mut seat: PoolSeat,
     number: u32,
+    mut judge: Judge,
 ) -> SessionHand
     requires hand { IsHandAt shared.now (pool_id pool.now) number hand }
     requires seat { seat_pool seat ≡ pool_id pool.now }
     ensures { IsSameHand hand result }
 {
     for _ in rt.forever() {
-        match go_round(rt, shared, pool, &mut hand, &mut seat, number) {
+        match go_round(rt, shared, pool, &mut hand, &mut seat, number, &mut judge) {
             Visit::Over => return hand,
             Visit::Idle => thread::yield_now(),
             Visit::Did => {}

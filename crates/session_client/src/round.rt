@@ -4,6 +4,7 @@ ghost use Rattle.host_frames.specs.Seats.{pool_id, seat_pool};
 ghost use Rattle.session_client.specs.Hands.{IsHandAt, IsSameHand};
 
 use crate::handing::hand_on;
+use crate::judge::Judge;
 use crate::landing::land;
 use crate::taking::take;
 use crate::task::Taken;
@@ -19,7 +20,8 @@ pub enum Visit {
     Over,
 }
 
-/// Hands on a kept answer, or else takes the next record and ends it at once.
+/// Hands on a kept answer, or else takes the next record and ends it at once, as the judge says.
+#[tactic(auto, using(crate::proofs::Tasks::ended_to_do))]
 pub fn go_round<R: Wait>(
     rt: &R,
     shared: &SessionShared,
@@ -27,6 +29,7 @@ pub fn go_round<R: Wait>(
     hand: &mut SessionHand,
     seat: &mut PoolSeat,
     number: u32,
+    judge: &mut Judge,
 ) -> Visit
     requires hand { IsHandAt shared.now (pool_id pool.now) number hand.old }
     requires seat { seat_pool seat.old ≡ pool_id pool.now }
@@ -38,6 +41,7 @@ pub fn go_round<R: Wait>(
     }
     match take(rt, shared, pool, hand, seat, number) {
         Taken::ToDo(task) => {
+            let task = judge.ended(task);
             land(rt, shared, pool, hand, number, task);
             Visit::Did
         }

@@ -1,6 +1,6 @@
-//! The client in one thread, and the hand in another. The plain judge looks at each session.
+//! The client in one thread, and in another the hand, which ends each record as the plain judge says. The plain judge looks at each session.
 use super::{close, flush, last, member, read, request, trim};
-use crate::{Deed, PART, Sizes, run_pair};
+use crate::{Deed, PART, Sizes, end_under, run_pair};
 use buffer_check::{events_of, is_buffer_history};
 use host_block::Oom;
 use host_model::{Event, MemEntry, TakenRow};
@@ -31,6 +31,11 @@ fn is_well(
     Ok(told && taken && answered)
 }
 
+// Whether each record, which the hand ended by the plain verdict, ended as the intake's own verdict has it.
+fn end_alike(rows: &[TakenRow]) -> bool {
+    rows.iter().all(|row| row.outcome == end_under(row.verdict))
+}
+
 // Plays a session. It tells how many rows it has, if the judge finds nothing wrong.
 fn rows_if_well<R: Threads + Wait + Sync>(
     rt: &R,
@@ -49,13 +54,14 @@ fn rows_if_well<R: Threads + Wait + Sync>(
         events: 300,
     };
     let (log, rows, entries) = run_pair(rt, alloc, sizes, deeds, how)?;
-    if is_well(
+    let well = is_well(
         alloc,
         log.as_slice(),
         rows.as_slice(),
         entries.as_slice(),
         how,
-    )? {
+    )?;
+    if well && end_alike(rows.as_slice()) {
         Ok(Some(rows.len()))
     } else {
         Ok(None)
@@ -74,7 +80,7 @@ fn course() -> [Deed; 20] {
         },
         Deed::Send(flush(0)),
         Deed::Send(member(1)),
-        Deed::Send(read(2, 9)),
+        Deed::Send(read(2, 2)),
         Deed::Send(member(3)),
         Deed::Send(trim(4, 30)),
         Deed::Send(last(5)),
