@@ -1,29 +1,47 @@
-//! `blockhost run IMAGE --dry` reads a script from standard input, plays it on a copy of the image in memory, and prints
-//! what the session did. `blockhost make SEED SESSIONS REQUESTS` prints a generated script.
+//! `blockhost run IMAGE` reads a script from standard input, plays it on the image, and prints what its sessions did; with
+//! `--dry` it plays on a copy in memory. `blockhost load IMAGE SEED SESSIONS REQUESTS` plays a generated script so, and prints
+//! a summary. `blockhost list IMAGE` prints the partition table, `blockhost make SEED SESSIONS REQUESTS` a generated script.
 #![tactic(auto)]
 
 use host_file::{FileDisk, StdSink, StdSource, WordsError, program_words};
 use host_io::OpenGate;
 use host_run::run;
 use std::alloc::AllocError;
+use std::fs::File;
 use std::io;
 use std::process::ExitCode;
+use std::sync::Wait;
+use std::thread::Threads;
 
 fn main(rt: HostRuntime) -> ExitCode {
-    match run_program(&rt) {
+    match run_program(&rt, &rt) {
         Ok(number) => ExitCode::from(number),
         Err(_) => ExitCode::from(8),
     }
 }
 
-// Runs the program's words on the real files and streams, and gives the number of the status.
-fn run_program(rt: &HostRuntime) -> io::Result<u8> {
+// Runs the program's words on the real files and streams, in threads of the second handle, and gives the number of the
+// status.
+fn run_program<R: Threads + Wait + Sync>(rt: &HostRuntime, threads: &R) -> io::Result<u8> {
+    // The number of a standard stream that is closed goes to a folder, which takes no text. Else the image would get it, and
+    // the text of the run with it.
+    let _in = File::open(rt, "/");
+    let _out = File::open(rt, "/");
+    let _err = File::open(rt, "/");
     let args = words_of(rt)?;
     let words: Vec<&str> = args.iter().map(|arg| arg.as_str()).collect(rt.alloc())?;
     let mut script = StdSource::new(rt.reader());
     let mut out = StdSink::new(io::writer(rt));
     let disk = FileDisk::new(rt.clone()?);
-    let outcome = run(rt.alloc(), &words, &mut script, disk, &mut out, &OpenGate);
+    let outcome = run(
+        threads,
+        rt.alloc(),
+        &words,
+        &mut script,
+        disk,
+        &mut out,
+        &OpenGate,
+    );
     Ok(outcome.status.number())
 }
 

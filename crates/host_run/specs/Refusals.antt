@@ -24,7 +24,6 @@ start_status error.Oom = status.OutOfMemory
 -- the status that the run ends with
 abbrev pub refused_status : Refusal → RunStatus
 refused_status refusal.Words = status.BadWords
-refused_status refusal.NotBuilt = status.NotBuilt
 refused_status (refusal.NoStart e) = start_status e
 
 -- the word of a limit
@@ -39,7 +38,6 @@ limit_word limit.Table = codes "table"
 -- the line of a status, with its line feed; none where a run with this status isn't refused
 abbrev pub refusal_line : RunStatus → List ℕ
 refusal_line status.BadWords = codes "refused 2 words\n"
-refusal_line status.NotBuilt = codes "refused 11 not built\n"
 refusal_line status.NoTable = codes "refused 3 no table\n"
 refusal_line (status.BadScript n cause) = line (codes "refused" ∷ codes "4" ∷ codes "line" ∷ decimal n ∷ cause_word cause ∷ [])
 refusal_line status.DiskFault = codes "refused 5 disk\n"

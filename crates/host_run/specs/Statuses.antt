@@ -10,7 +10,9 @@ use Rattle.host_report.specs.declared.closing.Closing.{Closing}
 use Rattle.host_report.specs.declared.closing.Closing.TheVariants.{Good, Fault, Cut, NoMemory}
 use Rattle.host_report.specs.declared.report.Report.{Report}
 use Rattle.host_run.specs.declared.status.RunStatus.{RunStatus}
-use Rattle.host_run.specs.declared.status.RunStatus.TheVariants.{Done, ClosingFault, BadWords, NoTable, BadScript, DiskFault, ScriptFault, SinkFault, OutOfMemory, TooLarge, NoPart, NotBuilt}
+use Rattle.host_run.specs.declared.status.RunStatus.TheVariants.{Done, ClosingFault, BadWords, NoTable, BadScript, DiskFault, ScriptFault, SinkFault, OutOfMemory, TooLarge, NoPart}
+use Rattle.host_worker.specs.Gathered.{reported}
+use Rattle.host_worker.specs.declared.gathering.Served.{Served}
 
 -- the number of a status
 abbrev pub number_of : RunStatus → ℕ
@@ -25,7 +27,6 @@ number_of SinkFault = 7
 number_of OutOfMemory = 8
 number_of (TooLarge what) = 9
 number_of (NoPart session part) = 10
-number_of NotBuilt = 11
 
 -- the status of a run whose sessions began, by its closing flush and whether its text was taken whole
 abbrev pub played_status : Closing → Bool → RunStatus
@@ -36,9 +37,17 @@ played_status Cut false = SinkFault
 played_status Fault was_written = ClosingFault
 played_status NoMemory was_written = OutOfMemory
 
+-- such a status
+abbrev pub IsEndStatus : RunStatus → Type 0
+IsEndStatus Done = Unit {0}
+IsEndStatus ClosingFault = Unit {0}
+IsEndStatus SinkFault = Unit {0}
+IsEndStatus OutOfMemory = Unit {0}
+IsEndStatus _ = ⊥
+
 -- The report of a run comes with the statuses 0, 1 and 7, with 8 just where the closing flush was refused memory, and with
 -- no other; status 1 comes just where the closing flush failed. Without a report the status is that of a refusal: 2 to 6 or 8
--- to 11.
+-- to 10.
 abbrev pub HasRunReport : RunStatus → Option Report → Type 0
 HasRunReport status None = (refusal : Refusal) × (status ≡ refused_status refusal)
 HasRunReport status (Some report) = (was_written : Bool) × (status ≡ played_status report.closing was_written)
@@ -54,6 +63,12 @@ HasReport (Some listing) making status report = report ≡ None
 HasReport None (Some making) status report = HasMade status report
 HasReport None None status report = HasRunReport status report
 
+-- what says that a server served a run comes with the report of that run, and keeps it
+abbrev pub IsServedAs : Option Served → Option Report → Type 0
+IsServedAs (Some served) (Some report) = reported served ≡ report
+IsServedAs None None = Unit {0}
+IsServedAs _ _ = ⊥
+
 -- the status tells of the content of an image
 abbrev pub IsContentStatus : RunStatus → Type 0
 IsContentStatus NoTable = Unit {0}
@@ -61,7 +76,9 @@ IsContentStatus (TooLarge limit.Table) = Unit {0}
 IsContentStatus (NoPart session part) = Unit {0}
 IsContentStatus _ = ⊥
 
--- a dry copy is handed out with a report, and without one exactly where its content is the cause of the refusal
-abbrev pub HandsOut : Option MemDisk → RunStatus → Option Report → Type 0
-HandsOut dry status (Some report) = IsSome dry
-HandsOut dry status None = IsSome dry ↔ IsContentStatus status
+-- A copy is handed out with a report, and without one exactly where its content is the cause of the refusal; a run on the
+-- disk itself hands out none.
+abbrev pub HandsOut : Bool → Option MemDisk → RunStatus → Option Report → Type 0
+HandsOut true dry status (Some report) = IsSome dry
+HandsOut true dry status None = IsSome dry ↔ IsContentStatus status
+HandsOut false dry status report = dry ≡ None

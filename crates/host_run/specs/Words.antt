@@ -1,20 +1,73 @@
--- What the words of a call ask for, of what is built.
-use Rattle.std.specs.Prelude.{◌≡◌, ◌≢◌, ◌≤◌, ℕ, true, false, List, Option, Some, None, Result, Ok, Err}
-use Rattle.host_run.specs.declared.task.Task.{Task}
-use Rattle.host_run.specs.declared.task.Task.TheVariants as task
-use Rattle.host_words.specs.Commands.{Meaning, lists, make, run}
+-- What the words of a call ask for.
+use Rattle.std.specs.Prelude.{◌≡◌, ◌≤◌, ℕ, Bool, true, false, List, Option, Some, None, unwrap_or, Result, Ok, Err}
+use Rattle.host_report.specs.Summary.{summary_text}
+use Rattle.host_report.specs.Text.{report_text}
+use Rattle.host_report.specs.declared.report.Report.{Report}
+use Rattle.host_run.specs.declared.mode.Text.{Text}
+use Rattle.host_run.specs.declared.mode.Text.TheVariants as text
+use Rattle.host_words.specs.Commands.{Meaning, lists, load, make, meaning_of, run}
+use Rattle.host_words.specs.declared.command.Command.{Command}
 use Rattle.host_words.specs.declared.words_error.WordsError.{WordsError}
 use Rattle.host_words.specs.declared.words_error.WordsError.TheVariants as error
 
--- the image and the size of a block of a dry run
-pub record DryRun : Type 0 where
+-- the text of a report, or its summary
+abbrev pub text_of : Text → Report → List ℕ
+text_of (text.Report steps) report = report_text report steps
+text_of text.Summary report = summary_text report
+
+-- ---- what is asked for
+
+-- the numbers of a script that is to be made
+pub record Making : Type 0 where
+  pub seed : ℕ
+  pub sessions : ℕ
+  pub requests : ℕ
+
+-- A run: its image, the size of a block, workers beside the clients, elements of a ring, whether the closing flush is left
+-- out and whether it is played on a copy, what is put of it, and the script where that isn't read but made.
+pub record Playing : Type 0 where
   pub name : List ℕ
   pub size : ℕ
+  pub workers : ℕ
+  pub depth : ℕ
+  pub cut : Bool
+  pub dry : Bool
+  pub told : Text
+  pub making : Option Making
 
--- the dry run that words of this meaning ask for: one without workers, depth, `--cut` and `--steps`
-abbrev pub dry_run_in : Option Meaning → Option DryRun
-dry_run_in (Some (run name size None None true false false)) = Some (record { name = name; size = size })
-dry_run_in _ = None
+-- the run that words of this meaning ask for
+abbrev pub playing_in : Option Meaning → Option Playing
+playing_in (Some (run name size workers depth dry cut steps)) = Some (record {
+  name = name;
+  size = size;
+  workers = unwrap_or workers 2;
+  depth = unwrap_or depth 128;
+  cut = cut;
+  dry = dry;
+  told = text.Report steps;
+  making = None;
+})
+playing_in (Some (load name seed sessions requests size workers depth)) = Some (record {
+  name = name;
+  size = size;
+  workers = unwrap_or workers 2;
+  depth = unwrap_or depth 128;
+  cut = false;
+  dry = true;
+  told = text.Summary;
+  making = Some (record { seed = seed; sessions = sessions; requests = requests });
+})
+playing_in _ = None
+
+-- words of this meaning ask for a run on a script that is read
+abbrev pub reads_script : Option Meaning → Bool
+reads_script (Some (run name size workers depth dry cut steps)) = true
+reads_script _ = false
+
+-- words of this meaning ask for a run on the disk itself
+abbrev pub plays_on_disk : Option Meaning → Bool
+plays_on_disk (Some (run name size workers depth false cut steps)) = true
+plays_on_disk _ = false
 
 -- the image and the size of a block of a table that is to be listed
 pub record TableOf : Type 0 where
@@ -26,23 +79,12 @@ abbrev pub listing_in : Option Meaning → Option TableOf
 listing_in (Some (lists name size)) = Some (record { name = name; size = size })
 listing_in _ = None
 
--- the numbers of a script that is to be made
-pub record Making : Type 0 where
-  pub seed : ℕ
-  pub sessions : ℕ
-  pub requests : ℕ
-
--- the script that words of this meaning ask for
+-- the text of a script that words of this meaning ask for
 abbrev pub making_in : Option Meaning → Option Making
 making_in (Some (make seed sessions requests)) = Some (record { seed = seed; sessions = sessions; requests = requests })
 making_in _ = None
 
--- the words are in the grammar, and ask for what isn't built yet
-pub record IsUnbuilt (meaning : Option Meaning) : Type 0 where
-  pub in_grammar : meaning ≢ None
-  pub no_dry_run : dry_run_in meaning ≡ None
-  pub no_listing : listing_in meaning ≡ None
-  pub no_making : making_in meaning ≡ None
+-- ---- numbers in their ranges
 
 -- numbers of which a script can be made
 pub record IsMakeable (seed sessions requests : ℕ) : Type 0 where
@@ -50,18 +92,20 @@ pub record IsMakeable (seed sessions requests : ℕ) : Type 0 where
   pub few_sessions : sessions ≤ 16
   pub few_requests : requests ≤ 2048
 
--- what a command of this meaning asks for
-abbrev pub Names : Meaning → Task → Type 0
-Names meaning (task.DryRun image size) = meaning ≡ run image.now size None None true false false
-Names meaning (task.List image size) = meaning ≡ lists image.now size
-Names meaning (task.Make seed sessions requests) = meaning ≡ make seed sessions requests
-Names meaning task.NotBuilt = IsUnbuilt (Some meaning)
+-- workers and elements of a ring
+pub record IsCrew (workers depth : ℕ) : Type 0 where
+  pub some_workers : (1 ≤ workers) × (workers ≤ 16)
+  pub some_depth : (1 ≤ depth) × (depth ≤ 128)
+
+-- the numbers of words of this meaning are in their ranges
+abbrev pub HasNumbers : Meaning → Type 0
+HasNumbers (run name size workers depth dry cut steps) = IsCrew (unwrap_or workers 2) (unwrap_or depth 128)
+HasNumbers (lists name size) = Unit {0}
+HasNumbers (make seed sessions requests) = IsMakeable seed sessions requests
+HasNumbers (load name seed sessions requests size workers depth) = IsMakeable seed sessions requests × IsCrew (unwrap_or workers 2) (unwrap_or depth 128)
 
 -- what reading words of this meaning gives
-abbrev pub Asks : Option Meaning → Result Task WordsError → Type 0
-Asks meaning (Ok (task.DryRun image size)) = meaning ≡ Some (run image.now size None None true false false)
-Asks meaning (Ok (task.List image size)) = meaning ≡ Some (lists image.now size)
-Asks meaning (Ok (task.Make seed sessions requests)) = (meaning ≡ Some (make seed sessions requests)) × IsMakeable seed sessions requests
-Asks meaning (Ok task.NotBuilt) = IsUnbuilt meaning
+abbrev pub Asks : Option Meaning → Result Command WordsError → Type 0
+Asks meaning (Ok command) = (meaning ≡ Some (meaning_of command)) × HasNumbers (meaning_of command)
 Asks meaning (Err error.BadWords) = meaning ≡ None
 Asks meaning (Err error.Oom) = Unit {0}

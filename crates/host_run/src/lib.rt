@@ -1,23 +1,24 @@
 //! The top call: the words of the program, a script and a disk make a run, whose text goes into a sink.
 #![tactic(auto)]
 
-mod dry;
-mod dry_run;
-mod first_range;
+mod ended;
 mod list;
+mod load;
 mod make;
-mod no_start;
+mod mode;
+mod on_copy;
+mod on_disk;
 mod outcome;
-mod played;
+mod play_and_tell;
+mod play_start;
 mod put;
 mod refusal;
 mod refuse;
-mod script;
-mod session;
-mod start;
+mod run_script;
 mod status;
-mod task;
+mod tell;
 mod top_call;
+mod words;
 
 pub use host_script::ScriptCause;
 pub use host_start::Limit;

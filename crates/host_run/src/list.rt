@@ -31,6 +31,7 @@ pub fn list<D: Disk, K: Sink>(
     ensures only_reads { OnlyReads (D.counts disk) (D.counts result.disk) (D.never_fails disk) (D.never_fails result.disk) }
     ensures no_dry { result.dry ≡ None }
     ensures no_report { result.report ≡ None }
+    ensures not_served { result.served ≡ None }
     ensures leaves { ListLeaves (record { disk_tells = (D.shape disk).tells; image = D.image_named disk image.now size; size = size; tells = K.tells out.old; old = K.appended out.old; new = K.appended out.new; faults = K.faults out.old; new_faults = K.faults out.new }) result.status }
 {
     let mut disk = disk;
@@ -57,6 +58,7 @@ fn no_list<D, K: Sink>(error: StartError, disk: D, out: &mut K) -> Outcome<D>
     ensures disk { result.disk ≡ disk }
     ensures no_dry { result.dry ≡ None }
     ensures no_report { result.report ≡ None }
+    ensures not_served { result.served ≡ None }
     ensures line { PutsText (K.tells out.old) (K.appended out.old) (K.appended out.new) (K.faults out.old) (K.faults out.new) (refusal_line (start_status error)) }
 {
     refuse(Refusal::NoStart { error }, disk, out)
@@ -68,11 +70,13 @@ fn listed<D>(status: RunStatus, disk: D) -> Outcome<D>
     ensures disk { result.disk ≡ disk }
     ensures no_dry { result.dry ≡ None }
     ensures no_report { result.report ≡ None }
+    ensures not_served { result.served ≡ None }
 {
     Outcome {
         status,
         disk,
         dry: None,
         report: None,
+        served: None,
     }
 }

@@ -32,6 +32,7 @@ pub fn make<D, K: Sink>(
     ensures disk { result.disk ≡ disk }
     ensures no_dry { result.dry ≡ None }
     ensures no_report { result.report ≡ None }
+    ensures not_served { result.served ≡ None }
     ensures text { PutsScript (K.tells out.old) (K.appended out.old) (K.appended out.new) (K.faults out.old) (K.faults out.new) (record { seed = seed; sessions = sessions; requests = requests }) result.status }
     ensures line { result.status ≡ OutOfMemory → PutsText (K.tells out.old) (K.appended out.old) (K.appended out.new) (K.faults out.old) (K.faults out.new) (refusal_line OutOfMemory) }
 {
@@ -48,6 +49,7 @@ fn put_script<D, K: Sink>(script: &Script, disk: D, out: &mut K) -> Outcome<D>
     ensures disk { result.disk ≡ disk }
     ensures no_dry { result.dry ≡ None }
     ensures no_report { result.report ≡ None }
+    ensures not_served { result.served ≡ None }
     ensures text { PutsText (K.tells out.old) (K.appended out.old) (K.appended out.new) (K.faults out.old) (K.faults out.new) (script_text (plans_of script.now)) }
     ensures whole { result.status ≡ Done → IsTrue (K.tells out.old) → K.appended out.new ≡ K.appended out.old ++ script_text (plans_of script.now) }
 {
@@ -61,5 +63,6 @@ fn put_script<D, K: Sink>(script: &Script, disk: D, out: &mut K) -> Outcome<D>
         disk,
         dry: None,
         report: None,
+        served: None,
     }
 }

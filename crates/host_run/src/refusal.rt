@@ -11,7 +11,6 @@ use host_start::StartError;
 pub enum Refusal {
     /// The words are outside the grammar.
     Words,
-    NotBuilt,
     NoStart { error: StartError },
 }
 
@@ -31,7 +30,6 @@ impl Refusal {
     {
         match self {
             Refusal::Words => RunStatus::BadWords,
-            Refusal::NotBuilt => RunStatus::NotBuilt,
             Refusal::NoStart { error } => status_of(error),
         }
     }

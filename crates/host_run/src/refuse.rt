@@ -2,6 +2,7 @@
 ghost use Rattle.std.specs.Prelude.{◌≡◌, None};
 ghost use Rattle.host_io.specs.Causes.{HasCause};
 ghost use Rattle.host_run.specs.Refusals.{refusal_line, refused_status, start_status};
+ghost use Rattle.host_run.specs.Statuses.{HasRunReport};
 ghost use Rattle.host_run.specs.Writes.{PutsText};
 ghost use Rattle.host_run.specs.declared.status.RunStatus.TheVariants.{BadScript, NoPart, TooLarge};
 ghost use Rattle.host_text.specs.Printed.{all_printed, printed};
@@ -29,6 +30,8 @@ pub fn refuse_on<D, K: Sink>(
     ensures disk { result.disk ≡ disk }
     ensures dry { result.dry ≡ dry }
     ensures no_report { result.report ≡ None }
+    ensures not_served { result.served ≡ None }
+    ensures report { HasRunReport result.status result.report }
     ensures line { PutsText (K.tells out.old) (K.appended out.old) (K.appended out.new) (K.faults out.old) (K.faults out.new) (refusal_line (refused_status refusal)) }
 {
     let _ = put_refusal(refusal, out);
@@ -37,6 +40,7 @@ pub fn refuse_on<D, K: Sink>(
         disk,
         dry,
         report: None,
+        served: None,
     }
 }
 
@@ -46,6 +50,8 @@ pub fn refuse<D, K: Sink>(refusal: Refusal, disk: D, out: &mut K) -> Outcome<D>
     ensures disk { result.disk ≡ disk }
     ensures no_dry { result.dry ≡ None }
     ensures no_report { result.report ≡ None }
+    ensures not_served { result.served ≡ None }
+    ensures report { HasRunReport result.status result.report }
     ensures line { PutsText (K.tells out.old) (K.appended out.old) (K.appended out.new) (K.faults out.old) (K.faults out.new) (refusal_line (refused_status refusal)) }
 {
     refuse_on(refusal, None, disk, out)
@@ -58,7 +64,6 @@ fn put_refusal<K: Sink>(refusal: Refusal, out: &mut K) -> Result<(), SinkFailed>
 {
     match refusal {
         Refusal::Words => put(out, b"refused 2 words\n"),
-        Refusal::NotBuilt => put(out, b"refused 11 not built\n"),
         Refusal::NoStart { error } => put_error(error, out),
     }
 }

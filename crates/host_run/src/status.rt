@@ -22,8 +22,6 @@ pub enum RunStatus {
     TooLarge { what: Limit },
     /// The first session that names a partition which isn't served.
     NoPart { session: u32, part: u32 },
-    /// What was asked for isn't built yet.
-    NotBuilt,
 }
 
 impl RunStatus {
@@ -43,7 +41,6 @@ impl RunStatus {
             RunStatus::OutOfMemory => 8,
             RunStatus::TooLarge { .. } => 9,
             RunStatus::NoPart { .. } => 10,
-            RunStatus::NotBuilt => 11,
         }
     }
 }

@@ -21,8 +21,14 @@ pub enum Outside {
     Source,
     Sink,
     Attach,
-    /// A block that is read.
+    /// A block that is read when the image is copied.
     Read,
+    /// The first block that a session reads from the disk itself.
+    SessionRead,
+    /// The first sync.
+    Sync,
+    /// The second piece of the text.
+    LateSink,
 }
 
 /// A run, and how it has to end.
@@ -36,8 +42,8 @@ pub struct Case {
     pub lines: &'static str,
 }
 
-/// The run that the program is stored with.
-pub const STORED: Case = Case {
+/// A block is read and shown.
+pub const READ: Case = Case {
     words: &["run", "base.img", "--dry"],
     script: "session 1\nattach 1\nread 1 1 0 0 1\nwait\nshow 1 0 1\ndrain\n",
     outside: Outside::Nothing,
@@ -45,23 +51,23 @@ pub const STORED: Case = Case {
     lines: "image 128 of 512\ntable primary\nsession 1 part 1 first 34 count 30\n  attach 1 id 1\n",
 };
 
-/// How the stored run may end: with memory for all, with none for the step, with none for the buffer, or with none at all.
-pub const ENDS: [&str; 4] = [
+/// How it may end: with memory for all, with none for the step, with none for the buffer, with none for the closing flush, or
+/// with none at all.
+pub const ENDS: [&str; 5] = [
     "  answer 0 reqid 1 group 0 count 1\n  show 1 0 1 yes\n    0 all 22\n  drained\nsteps 2\nclosing ok\nend\n",
     "  answer -4 reqid 1 group 0 count 1\n  show 1 0 1 yes\n    0 all 00\n  drained\nsteps 1\nclosing ok\nend\n",
     "  answer -25 reqid 1 group 0 count 1\n  show 1 0 1 no\n  drained\nsteps 1\nclosing ok\nend\n",
+    "  answer 0 reqid 1 group 0 count 1\n  show 1 0 1 yes\n    0 all 22\n  drained\nsteps 1\nclosing no-memory\nend\n",
     "refused 8 memory\n",
 ];
-
-const NOT_BUILT: Case = Case {
-    status: RunStatus::NotBuilt,
-    lines: "refused 11 not built\n",
-    ..STORED
-};
 
 /// What `make 1 1 2` prints.
 const MADE: &str =
     "session 1\nattach 8\nfill 1 0 8 01\ntrim 0 11 3\nread 1 1 0 11 4\nwait\nshow 1 0 8\ndrain\n";
+
+/// More flushes than one piece of the text can tell.
+const FLUSHES: &str =
+    "session 1\nflush 7\nflush 7\nflush 7\nflush 7\nflush 7\nflush 7\nflush 7\nflush 7\nflush 7\nflush 7\nflush 7\nflush 7\nflush 7\nflush 7\nflush 7\nflush 7\nflush 7\nflush 7\nflush 7\nflush 7\nflush 7\nflush 7\nflush 7\nflush 7\nflush 7\nflush 7\nflush 7\nflush 7\nflush 7\nflush 7\nflush 7\nflush 7\nflush 7\nflush 7\nflush 7\nflush 7\nflush 7\nflush 7\nflush 7\nflush 7\nflush 7\nflush 7\nflush 7\nflush 7\nflush 7\nflush 7\nflush 7\nflush 7\nflush 7\nflush 7\nflush 7\nflush 7\nflush 7\nflush 7\nflush 7\nflush 7\nflush 7\nflush 7\nflush 7\nflush 7\n";
 
 /// One session more than a script may have.
 const SESSIONS: &str =
@@ -70,64 +76,65 @@ const SESSIONS: &str =
 const BAD_WORDS: Case = Case {
     status: RunStatus::BadWords,
     lines: "refused 2 words\n",
-    ..STORED
+    ..READ
 };
 
-pub const CASES: [Case; 37] = [
-    STORED,
+pub const CASES: [Case; 46] = [
+    READ,
     Case {
         script: "session 1\nattach 1\nread 1 1 0 29 1\nwait\nshow 1 0 1\n",
         lines: "    0 all 3f\n  drained\nsteps 2\n",
-        ..STORED
+        ..READ
     },
     Case {
         script: "session 1\nattach 2\nread 1 1 0 29 2\nwait\n",
         lines: "  answer -14 reqid 1 group 0 count 1\n  drained\nsteps 1\n",
-        ..STORED
+        ..READ
     },
     Case {
         script: "session 1\nattach 2\nread 1 1 0 18446744073709551615 2\nwait\n",
         lines: "  answer -14 reqid 1 group 0 count 1\n  drained\nsteps 1\n",
-        ..STORED
+        ..READ
     },
     Case {
         script: "session 1\n",
         lines: "count 30\n  drained\nsteps 1\nclosing ok\n",
-        ..STORED
+        ..READ
     },
     Case {
-        script: "session 2\nattach 2\nread 7 1 1 30 1\nshow 1 0 2\ndrain\n",
-        lines: "  show 1 0 2 yes\n    0 all 00\n    1 all 5e\n  answer 0 reqid 7 group 0 count 1\n",
-        ..STORED
+        script: "session 2\nattach 2\nread 7 1 1 30 1\nwait\nshow 1 0 2\ndrain\n",
+        lines: "  answer 0 reqid 7 group 0 count 1\n  show 1 0 2 yes\n    0 all 00\n    1 all 5e\n",
+        ..READ
     },
     Case {
         script: "session 1\nattach 1\nread 1 1 0 0 0\nwait\n",
         lines: "  answer -10 reqid 1 group 0 count 1\n",
-        ..STORED
+        ..READ
     },
     Case {
         script: "session 1\nattach 1\nread 1 2 0 0 1\nwait\n",
         lines: "  answer -25 reqid 1 group 0 count 1\n",
-        ..STORED
+        ..READ
     },
     Case {
         script: "session 1\nattach 1\nread 1 1 1 0 1\nwait\nshow 1 1 1\n",
         lines: "  answer -15 reqid 1 group 0 count 1\n  show 1 1 1 no\n",
-        ..STORED
+        ..READ
     },
     Case {
         script: "session 1\nshow 1 0 1\n",
         lines: "  show 1 0 1 no\n  drained\n",
-        ..STORED
+        ..READ
     },
     Case {
         script: "",
-        ..NOT_BUILT
+        lines: "table primary\nsteps 1\nclosing ok\nend\n",
+        ..READ
     },
     Case {
         script: "# one client\n\nsession\t1 # on the first partition\r\n  attach  1\nread 1 1 0 0 1\nwait",
         lines: "count 30\n  attach 1 id 1\n",
-        ..STORED
+        ..READ
     },
     Case {
         script: "session 1\n\0\n",
@@ -136,7 +143,7 @@ pub const CASES: [Case; 37] = [
             cause: ScriptCause::BadByte,
         },
         lines: "refused 4 line 2 byte\n",
-        ..STORED
+        ..READ
     },
     Case {
         script: "session 1\nattach 4097\n",
@@ -145,7 +152,7 @@ pub const CASES: [Case; 37] = [
             cause: ScriptCause::BadNumber,
         },
         lines: "refused 4 line 2 number\n",
-        ..STORED
+        ..READ
     },
     Case {
         script: "session 1\nsession 3\n",
@@ -154,7 +161,7 @@ pub const CASES: [Case; 37] = [
             part: 3,
         },
         lines: "refused 10 session 2 part 3\n",
-        ..STORED
+        ..READ
     },
     Case {
         script: SESSIONS,
@@ -162,15 +169,17 @@ pub const CASES: [Case; 37] = [
             what: Limit::Sessions,
         },
         lines: "refused 9 sessions\n",
-        ..STORED
+        ..READ
     },
     Case {
         script: "session 1\nwait\nwait\n",
-        ..NOT_BUILT
+        lines: "count 30\n  drained\nsteps 1\n",
+        ..READ
     },
     Case {
         script: "session 1\nread 1 1 0 0 1\nattach 1\n",
-        ..NOT_BUILT
+        lines: "  answer -25 reqid 1 group 0 count 1\n",
+        ..READ
     },
     Case {
         outside: Outside::LongScript,
@@ -178,24 +187,24 @@ pub const CASES: [Case; 37] = [
             what: Limit::ScriptBytes,
         },
         lines: "refused 9 script\n",
-        ..STORED
+        ..READ
     },
     Case {
         outside: Outside::Table,
         lines: "image 128 of 512\ntable backup\nsession 1 part 1 first 34 count 30\n",
-        ..STORED
+        ..READ
     },
     Case {
         outside: Outside::Tables,
         status: RunStatus::NoTable,
         lines: "refused 3 no table\n",
-        ..STORED
+        ..READ
     },
     Case {
         outside: Outside::LargeTable,
         status: RunStatus::TooLarge { what: Limit::Table },
         lines: "refused 9 table\n",
-        ..STORED
+        ..READ
     },
     Case {
         outside: Outside::ShortImage,
@@ -204,7 +213,7 @@ pub const CASES: [Case; 37] = [
             part: 1,
         },
         lines: "refused 10 session 1 part 1\n",
-        ..STORED
+        ..READ
     },
     Case {
         outside: Outside::Overlap,
@@ -213,42 +222,117 @@ pub const CASES: [Case; 37] = [
             part: 1,
         },
         lines: "refused 10 session 1 part 1\n",
-        ..STORED
+        ..READ
     },
     Case {
         words: &["run", "base.img", "--cut"],
-        ..NOT_BUILT
+        script: "session 1\nattach 1\nfill 1 0 1 5a\nwrite 1 1 0 0 1\nwait\nread 2 1 0 1 1\nwait\nshow 1 0 1\n",
+        lines: "  show 1 0 1 yes\n    0 all 23\n  drained\nsteps 2\nclosing cut\nend\n",
+        ..READ
+    },
+    Case {
+        words: &["run", "base.img", "--steps", "--depth=1", "--workers", "8"],
+        lines: "    0 all 22\n  drained\n  taken 0 accepted 0\n  memory attach 1 1 0\n",
+        ..READ
+    },
+    Case {
+        words: &["run", "base.img", "--steps"],
+        script: "session 1\nabort\nsession 2\ntrim 1 0 1\nwait\n",
+        lines: "steps 2\n  step 2 0 0 trim 64 ok\n  step 0 0 0 flush 0 ok\nclosing ok\nend\n",
+        ..READ
+    },
+    Case {
+        words: &["run", "base.img"],
+        outside: Outside::SessionRead,
+        lines: "  answer -40 reqid 1 group 0 count 1\n",
+        ..READ
+    },
+    Case {
+        words: &["run", "base.img"],
+        outside: Outside::Sync,
+        status: RunStatus::ClosingFault,
+        lines: "steps 2\nclosing fault\nend\n",
+        ..READ
+    },
+    Case {
+        script: FLUSHES,
+        outside: Outside::LateSink,
+        status: RunStatus::SinkFault,
+        lines: "count 30\n",
+        ..READ
+    },
+    Case {
+        words: &["run", "base.img"],
+        outside: Outside::Attach,
+        status: RunStatus::DiskFault,
+        lines: "refused 5 disk\n",
+        ..READ
+    },
+    Case {
+        words: &["run", "base.img"],
+        outside: Outside::Tables,
+        status: RunStatus::NoTable,
+        lines: "refused 3 no table\n",
+        ..READ
     },
     Case {
         words: &["load", "base.img", "1", "1", "2"],
-        ..NOT_BUILT
+        script: MADE,
+        lines: "load 1 sessions 2 records\nanswers 2 ok 2 failed 0\nsteps 8\nclosing ok\nend\n",
+        ..READ
+    },
+    Case {
+        words: &[
+            "load",
+            "base.img",
+            "1",
+            "1",
+            "2",
+            "--workers=16",
+            "--depth=1",
+        ],
+        script: MADE,
+        outside: Outside::Source,
+        lines: "load 1 sessions 2 records\n",
+        ..READ
+    },
+    Case {
+        words: &["load", "base.img", "1", "1", "2"],
+        script: MADE,
+        outside: Outside::ShortImage,
+        status: RunStatus::NoPart {
+            session: 1,
+            part: 1,
+        },
+        lines: "refused 10 session 1 part 1\n",
+        ..READ
     },
     Case {
         words: &["run", "--dry", "--block=512", "--", "base.img"],
-        ..STORED
+        ..READ
     },
     Case {
         words: &["list", "--", "base.img"],
         lines: "image 128 of 512\ntable primary\ndisk 00112233-4455-6677-8899-aabbccddeeff\npart 1 first 34 last 63 ",
-        ..STORED
+        ..READ
     },
     Case {
         words: &["list", "--block=1024", "base.img"],
         status: RunStatus::NoTable,
         lines: "refused 3 no table\n",
-        ..STORED
+        ..READ
     },
     Case {
         words: &["list", "base.img"],
         outside: Outside::Attach,
         status: RunStatus::DiskFault,
         lines: "refused 5 disk\n",
-        ..STORED
+        ..READ
     },
     Case {
         words: &["make", "1", "1", "2"],
         lines: MADE,
-        ..STORED
+        ..READ
     },
     Case {
         words: &[],
@@ -262,24 +346,24 @@ pub const CASES: [Case; 37] = [
         outside: Outside::Source,
         status: RunStatus::ScriptFault,
         lines: "refused 6 script unread\n",
-        ..STORED
+        ..READ
     },
     Case {
         outside: Outside::Sink,
         status: RunStatus::SinkFault,
         lines: "",
-        ..STORED
+        ..READ
     },
     Case {
         outside: Outside::Attach,
         status: RunStatus::DiskFault,
         lines: "refused 5 disk\n",
-        ..STORED
+        ..READ
     },
     Case {
         outside: Outside::Read,
         status: RunStatus::DiskFault,
         lines: "refused 5 disk\n",
-        ..STORED
+        ..READ
     },
 ];

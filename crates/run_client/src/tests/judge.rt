@@ -1,14 +1,16 @@
 //! A run on objects in memory, and what the judges find of it.
 
 use super::cases::{Case, Outside};
-use crate::plays;
 use host_check::is_lawful_image;
 use host_gpt::{crc32, sample};
 use host_io::{CallKind, FailAt, MemDisk, MemSink, MemSource, OpenGate};
-use host_report::{Report, write_report};
+use host_report::{Report, write_report, write_summary};
 use host_run::{RunStatus, run};
 use host_script::parse;
+use script_check::plays;
 use std::alloc::Global;
+use std::sync::Wait;
+use std::thread::Threads;
 
 /// The most bytes of a text.
 const ROOM: u32 = 10_000;
@@ -56,18 +58,26 @@ impl Left {
 }
 
 /// Runs a case, and judges its report; `None` where memory was refused to the judge.
-pub fn run_judged(alloc: Global, case: &Case) -> Option<Left> {
+pub fn run_judged<R: Threads + Wait + Sync>(rt: &R, alloc: Global, case: &Case) -> Option<Left> {
     let image = image(alloc, case.outside)?;
     let script = script(alloc, case)?;
     let mut source = source(alloc, &script, case.outside)?;
     let mut sink = sink(alloc, case.outside)?;
     let disk = disk(alloc, &image, case.outside)?;
-    let outcome = run(alloc, case.words, &mut source, disk, &mut sink, &OpenGate);
+    let outcome = run(
+        rt,
+        alloc,
+        case.words,
+        &mut source,
+        disk,
+        &mut sink,
+        &OpenGate,
+    );
     let found = match &outcome.report {
         Some(report) => Some(Found {
             lawful: is_lawful_image(alloc, &image, report).ok()?,
             played: plays(alloc, &parse(alloc, &script).ok()?, report).ok()?,
-            told: is_told(alloc, report, sink.bytes(), outcome.status)?,
+            told: is_told(alloc, case, report, sink.bytes(), outcome.status)?,
         }),
         None => None,
     };
@@ -78,10 +88,20 @@ pub fn run_judged(alloc: Global, case: &Case) -> Option<Left> {
     })
 }
 
-// Whether this is the text of the report, or where the sink failed a front of it.
-fn is_told(alloc: Global, report: &Report, text: &[u8], status: RunStatus) -> Option<bool> {
+// Whether this is what the words ask for of the report, its text or its summary, or where the sink failed a front of it.
+fn is_told(
+    alloc: Global,
+    case: &Case,
+    report: &Report,
+    text: &[u8],
+    status: RunStatus,
+) -> Option<bool> {
     let mut sink = MemSink::new(alloc, ROOM, Vec::new(alloc)).ok()?;
-    let is_whole = write_report(report, false, &mut sink).is_ok();
+    let is_whole = if case.words.contains(&"load") {
+        write_summary(report, &mut sink).is_ok()
+    } else {
+        write_report(report, case.words.contains(&"--steps"), &mut sink).is_ok()
+    };
     let is_front = sink.bytes().starts_with(text);
     let is_all = sink.bytes().len() == text.len() || status == RunStatus::SinkFault;
     Some(is_whole && is_front && is_all)
@@ -150,8 +170,10 @@ fn source(alloc: Global, script: &[u8], outside: Outside) -> Option<MemSource> {
 
 fn sink(alloc: Global, outside: Outside) -> Option<MemSink> {
     let mut fails = Vec::new(alloc);
-    if let Outside::Sink = outside {
-        fails.push(1).ok()?;
+    match outside {
+        Outside::Sink => fails.push(1).ok()?,
+        Outside::LateSink => fails.push(2).ok()?,
+        _ => (),
     }
     MemSink::new(alloc, ROOM, fails).ok()
 }
@@ -161,6 +183,9 @@ fn disk(alloc: Global, image: &[u8], outside: Outside) -> Option<MemDisk> {
     match outside {
         Outside::Attach => fails.push(failing(CallKind::Attach, 1)).ok()?,
         Outside::Read => fails.push(failing(CallKind::Read, 100)).ok()?,
+        // The table is read before, with its header and the 32 blocks of its array.
+        Outside::SessionRead => fails.push(failing(CallKind::Read, 34)).ok()?,
+        Outside::Sync => fails.push(failing(CallKind::Sync, 1)).ok()?,
         _ => (),
     }
     Some(MemDisk::new(alloc, image.to_vec(alloc).ok()?, fails))

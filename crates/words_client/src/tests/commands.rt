@@ -1,6 +1,6 @@
 //! Commands, and how many words each takes.
 
-use super::call::{LISTED, LOAD_LATER, MADE, REFUSED, RUN, RUN_LATER, Row};
+use super::call::{LISTED, LOAD, MADE, REFUSED, RUN, Row};
 
 pub const ROWS: [Row; 59] = [
     // No command's name.
@@ -30,9 +30,9 @@ pub const ROWS: [Row; 59] = [
     // Each command with its words.
     (&["list", "base.img"], LISTED),
     (&["run", "base.img", "--dry"], RUN),
-    (&["run", "base.img"], RUN_LATER),
+    (&["run", "base.img"], RUN),
     (&["make", "1", "1", "2"], MADE),
-    (&["load", "base.img", "1", "1", "2"], LOAD_LATER),
+    (&["load", "base.img", "1", "1", "2"], LOAD),
     // Too few words, or too many.
     (&["run"], REFUSED),
     (&["list"], REFUSED),
@@ -63,7 +63,7 @@ pub const ROWS: [Row; 59] = [
     (&["list", "list"], LISTED),
     (&["list", "-"], LISTED),
     (&["run", "-", "--dry"], RUN),
-    (&["load", "-", "1", "1", "2"], LOAD_LATER),
+    (&["load", "-", "1", "1", "2"], LOAD),
     (&["list", "="], LISTED),
     (&["list", "a b"], LISTED),
     (&["list", "ä漢.img"], LISTED),

@@ -1,6 +1,6 @@
 //! Words that begin with a hyphen.
 
-use super::call::{LISTED, LOAD_LATER, MADE, NO_TABLE, REFUSED, RUN, RUN_LATER, Row};
+use super::call::{LISTED, LOAD, MADE, NO_TABLE, REFUSED, RUN, Row};
 
 pub const ROWS: [Row; 59] = [
     // One hyphen.
@@ -39,24 +39,21 @@ pub const ROWS: [Row; 59] = [
     (&["list", "--block=1024", "--", "base.img"], NO_TABLE),
     (&["run", "--dry", "--", "base.img"], RUN),
     (&["make", "--", "1", "1", "2"], MADE),
-    (&["load", "--", "base.img", "1", "1", "2"], LOAD_LATER),
-    (
-        &["load", "--block=512", "--", "-", "1", "1", "2"],
-        LOAD_LATER,
-    ),
+    (&["load", "--", "base.img", "1", "1", "2"], LOAD),
+    (&["load", "--block=512", "--", "-", "1", "1", "2"], LOAD),
     // After them, or between.
     (&["list", "base.img", "--"], LISTED),
     (&["list", "base.img", "--block=512", "--"], LISTED),
     (&["run", "base.img", "--dry", "--"], RUN),
     (&["make", "1", "1", "2", "--"], MADE),
     (&["make", "1", "--", "1", "2"], MADE),
-    (&["load", "base.img", "1", "--", "1", "2"], LOAD_LATER),
+    (&["load", "base.img", "1", "--", "1", "2"], LOAD),
     // No word after it is an option.
     (&["list", "--", "--block=512"], LISTED),
     (&["list", "--", "--"], LISTED),
     (&["list", "--", "-"], LISTED),
     (&["list", "--", "-x"], LISTED),
-    (&["run", "--", "--dry"], RUN_LATER),
+    (&["run", "--", "--dry"], RUN),
     (&["run", "--dry", "--", "--dry"], RUN),
     (&["list", "--"], REFUSED),
     (&["list", "--", "--block", "512"], REFUSED),

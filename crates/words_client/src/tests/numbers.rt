@@ -1,6 +1,6 @@
 //! How a number is written.
 
-use super::call::{LISTED, LOAD_LATER, MADE, NO_TABLE, REFUSED, RUN_LATER, Row};
+use super::call::{LISTED, LOAD, MADE, NO_TABLE, REFUSED, RUN, Row};
 
 pub const ROWS: [Row; 54] = [
     // Leading zeros.
@@ -10,17 +10,17 @@ pub const ROWS: [Row; 54] = [
         LISTED,
     ),
     (&["list", "base.img", "--block=01024"], NO_TABLE),
-    (&["run", "base.img", "--dry", "--workers", "016"], RUN_LATER),
+    (&["run", "base.img", "--dry", "--workers", "016"], RUN),
     (&["run", "base.img", "--dry", "--workers=017"], REFUSED),
     (&["run", "base.img", "--dry", "--workers=00"], REFUSED),
-    (&["run", "base.img", "--dry", "--depth", "0128"], RUN_LATER),
+    (&["run", "base.img", "--dry", "--depth", "0128"], RUN),
     (&["run", "base.img", "--dry", "--depth=0129"], REFUSED),
     (&["make", "01", "01", "02"], MADE),
     (&["make", "00", "1", "1"], MADE),
     (&["make", "000000000000000000000000000001", "1", "2"], MADE),
     (&["make", "1", "000000000000000000000000000001", "2"], MADE),
     (&["make", "1", "1", "000000000000000000000000000002"], MADE),
-    (&["load", "base.img", "007", "016", "002048"], LOAD_LATER),
+    (&["load", "base.img", "007", "016", "002048"], LOAD),
     // A sign.
     (&["list", "base.img", "--block", "+512"], REFUSED),
     (&["list", "base.img", "--block=+512"], REFUSED),

@@ -1,6 +1,6 @@
 //! Options, in their places.
 
-use super::call::{LISTED, LOAD_LATER, NO_TABLE, REFUSED, RUN, RUN_LATER, Row};
+use super::call::{LISTED, LOAD, NO_TABLE, REFUSED, RUN, Row};
 
 pub const ROWS: [Row; 82] = [
     // In any order, before and after the image.
@@ -10,12 +10,12 @@ pub const ROWS: [Row; 82] = [
     (&["list", "--block", "512", "base.img"], LISTED),
     (&["list", "--block=512", "base.img"], LISTED),
     (&["list", "base.img", "--block=1024"], NO_TABLE),
-    (&["run", "base.img", "--cut"], RUN_LATER),
-    (&["run", "base.img", "--steps"], RUN_LATER),
-    (&["run", "base.img", "--dry", "--cut"], RUN_LATER),
-    (&["run", "--steps", "base.img", "--dry"], RUN_LATER),
-    (&["run", "base.img", "--dry", "--workers", "2"], RUN_LATER),
-    (&["run", "base.img", "--depth=1", "--dry"], RUN_LATER),
+    (&["run", "base.img", "--cut"], RUN),
+    (&["run", "base.img", "--steps"], RUN),
+    (&["run", "base.img", "--dry", "--cut"], RUN),
+    (&["run", "--steps", "base.img", "--dry"], RUN),
+    (&["run", "base.img", "--dry", "--workers", "2"], RUN),
+    (&["run", "base.img", "--depth=1", "--dry"], RUN),
     (
         &[
             "run",
@@ -28,7 +28,7 @@ pub const ROWS: [Row; 82] = [
             "--block=2048",
             "base.img",
         ],
-        RUN_LATER,
+        RUN,
     ),
     (
         &[
@@ -42,11 +42,11 @@ pub const ROWS: [Row; 82] = [
             "--depth=8",
             "2",
         ],
-        LOAD_LATER,
+        LOAD,
     ),
     (
         &["load", "base.img", "1", "1", "2", "--block", "1024"],
-        LOAD_LATER,
+        NO_TABLE,
     ),
     // Options of another command, or of none.
     (&["list", "base.img", "--dry"], REFUSED),
@@ -164,7 +164,7 @@ pub const ROWS: [Row; 82] = [
     (&["run", "base.img", "--dry", "--block", ""], REFUSED),
     // With `=`.
     (&["run", "base.img", "--dry", "--block=512"], RUN),
-    (&["run", "base.img", "--dry", "--workers=1"], RUN_LATER),
+    (&["run", "base.img", "--dry", "--workers=1"], RUN),
     (&["list", "base.img", "--block="], REFUSED),
     (&["run", "base.img", "--dry", "--workers="], REFUSED),
     (&["run", "base.img", "--dry", "--depth="], REFUSED),

@@ -1,6 +1,6 @@
 //! Values at the ends of each range, and one past.
 
-use super::call::{LISTED, LOAD_LATER, MADE, NO_TABLE, REFUSED, RUN, RUN_LATER, Row};
+use super::call::{LISTED, LOAD, MADE, NO_TABLE, REFUSED, RUN, Row};
 
 pub const ROWS: [Row; 62] = [
     // The size of a block.
@@ -33,48 +33,36 @@ pub const ROWS: [Row; 62] = [
     ),
     (
         &["load", "base.img", "1", "1", "2", "--block", "4096"],
-        LOAD_LATER,
+        NO_TABLE,
     ),
     // Workers, 1 to 16.
     (&["run", "base.img", "--dry", "--workers", "0"], REFUSED),
-    (&["run", "base.img", "--dry", "--workers", "1"], RUN_LATER),
-    (&["run", "base.img", "--dry", "--workers", "16"], RUN_LATER),
+    (&["run", "base.img", "--dry", "--workers", "1"], RUN),
+    (&["run", "base.img", "--dry", "--workers", "16"], RUN),
     (&["run", "base.img", "--dry", "--workers", "17"], REFUSED),
     (&["load", "base.img", "1", "1", "2", "--workers=0"], REFUSED),
-    (
-        &["load", "base.img", "1", "1", "2", "--workers=1"],
-        LOAD_LATER,
-    ),
-    (
-        &["load", "base.img", "1", "1", "2", "--workers=16"],
-        LOAD_LATER,
-    ),
+    (&["load", "base.img", "1", "1", "2", "--workers=1"], LOAD),
+    (&["load", "base.img", "1", "1", "2", "--workers=16"], LOAD),
     (
         &["load", "base.img", "1", "1", "2", "--workers=17"],
         REFUSED,
     ),
     // Depth, 1 to 128.
     (&["run", "base.img", "--dry", "--depth", "0"], REFUSED),
-    (&["run", "base.img", "--dry", "--depth", "1"], RUN_LATER),
-    (&["run", "base.img", "--dry", "--depth", "128"], RUN_LATER),
+    (&["run", "base.img", "--dry", "--depth", "1"], RUN),
+    (&["run", "base.img", "--dry", "--depth", "128"], RUN),
     (&["run", "base.img", "--dry", "--depth", "129"], REFUSED),
     (&["load", "base.img", "1", "1", "2", "--depth=0"], REFUSED),
-    (
-        &["load", "base.img", "1", "1", "2", "--depth=1"],
-        LOAD_LATER,
-    ),
-    (
-        &["load", "base.img", "1", "1", "2", "--depth=128"],
-        LOAD_LATER,
-    ),
+    (&["load", "base.img", "1", "1", "2", "--depth=1"], LOAD),
+    (&["load", "base.img", "1", "1", "2", "--depth=128"], LOAD),
     (&["load", "base.img", "1", "1", "2", "--depth=129"], REFUSED),
     // The seed, 0 to 2,147,483,647.
     (&["make", "0", "1", "1"], MADE),
     (&["make", "2147483647", "1", "1"], MADE),
     (&["make", "2147483648", "1", "1"], REFUSED),
     (&["make", "4294967295", "1", "1"], REFUSED),
-    (&["load", "base.img", "0", "1", "1"], LOAD_LATER),
-    (&["load", "base.img", "2147483647", "1", "1"], LOAD_LATER),
+    (&["load", "base.img", "0", "1", "1"], LOAD),
+    (&["load", "base.img", "2147483647", "1", "1"], LOAD),
     (&["load", "base.img", "2147483648", "1", "1"], REFUSED),
     // Sessions, 1 to 16.
     (&["make", "1", "0", "1"], REFUSED),
@@ -82,7 +70,7 @@ pub const ROWS: [Row; 62] = [
     (&["make", "1", "16", "1"], MADE),
     (&["make", "1", "17", "1"], REFUSED),
     (&["load", "base.img", "1", "0", "1"], REFUSED),
-    (&["load", "base.img", "1", "16", "1"], LOAD_LATER),
+    (&["load", "base.img", "1", "16", "1"], LOAD),
     (&["load", "base.img", "1", "17", "1"], REFUSED),
     // Requests, 1 to 2,048.
     (&["make", "1", "1", "0"], REFUSED),
@@ -90,6 +78,6 @@ pub const ROWS: [Row; 62] = [
     (&["make", "1", "1", "2048"], MADE),
     (&["make", "1", "1", "2049"], REFUSED),
     (&["load", "base.img", "1", "1", "0"], REFUSED),
-    (&["load", "base.img", "1", "1", "2048"], LOAD_LATER),
+    (&["load", "base.img", "1", "1", "2048"], LOAD),
     (&["load", "base.img", "1", "1", "2049"], REFUSED),
 ];

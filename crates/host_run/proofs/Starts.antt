@@ -1,0 +1,22 @@
+-- What a start gives to the sessions that are played on it.
+use Rattle.std.proofs.Common.{◌≡◌, ℕ, ◌+◌, ◌≤◌, List, length, map, Result, Ok, Err, sym, ◌∙◌, ap}
+use Rattle.std.specs.Prelude.{All, IfOk}
+use Rattle.std.proofs.lemmas.List.{length-map}
+use Rattle.std.proofs.lemmas.List.Elements.{All-map}
+use Rattle.host_block.specs.declared.range.Range.{Range}
+use Rattle.host_start.specs.Images.{parts_of}
+use Rattle.host_start.specs.declared.places.Place.{Place}
+use Rattle.script_model.specs.Plans.{SessionPlan}
+
+-- the ranges of places that lie in the image lie there
+pub ranges_inside : (blocks : ℕ) (places : List Place) → All (λ (p : Place). p.range.first + p.range.count ≤ blocks) places → All (λ (r : Range). r.first + r.count ≤ blocks) (map (λ (p : Place). p.range) places)
+ranges_inside blocks places inside = All-map (λ (r : Range). r.first + r.count ≤ blocks) (λ (p : Place). p.range) places inside
+
+-- there are as many places as sessions
+pub as_many : (plans : List SessionPlan) (places : List Place) → map (λ (p : Place). p.part) places ≡ parts_of plans → length places ≡ length plans
+as_many plans places named = sym (length-map places (λ (p : Place). p.part)) ∙ (ap (λ (l : List ℕ). length l) named ∙ length-map plans (λ (plan : SessionPlan). plan.part))
+
+-- three facts of a success give a fourth
+pub on_three : {T E : Type 0} (r : Result T E) (P Q R S : T → Type 0) → ((t : T) → P t → Q t → R t → S t) → IfOk r P → IfOk r Q → IfOk r R → IfOk r S
+on_three (Ok t) P Q R S from p q s = from t p q s
+on_three (Err e) P Q R S from p q s = tt

@@ -1,0 +1,44 @@
+use Rattle.std.proofs.Common.{◌≡◌, ◌∙◌, ℕ, List, ap, refl, subst, sym}
+use Rattle.crash_law.specs.Survival.{KeepsFlushed}
+use Rattle.host_block.specs.Crash.{IsCrashImage}
+use Rattle.host_block.specs.Disk.{DiskState}
+use Rattle.host_device.specs.Faults.{RoseBy, faulted_count}
+use Rattle.host_io.specs.Flat.{image_of}
+use Rattle.host_io.specs.MemDisk.{counts_of}
+use Rattle.host_model.specs.Changes.{changes_of}
+use Rattle.host_report.specs.Lawful.{IsLawful}
+use Rattle.host_start.specs.Copies.{image_in}
+use Rattle.script_model.specs.Plans.{plans_of}
+use Rattle.host_run.specs.Copies.{opening_image}
+use Rattle.host_run.proofs.Faults.{none_faulted, rose_by_none}
+use Rattle.host_run.proofs.Starts.{as_many}
+use Rattle.host_run.proofs.on_copy.play_on_copy.Goals as goal
+
+pub play_start-requires-clause-places : goal.play_start-requires-clause-places
+play_start-requires-clause-places g c κs within =
+    let start = c.in-Ok.ready.start in
+    as_many (plans_of start.script) start.places.items c.in-Ok.ensures.placed.places.named
+
+pub returns-in-Ok-play_start-clause-ran : goal.returns-in-Ok-play_start-clause-ran
+returns-in-Ok-play_start-clause-ran g c =
+    let ready = c.in-Ok.ensures in
+    let copy = c.in-Ok.ready.copy in
+    let run = c.in-Ok-play_start.run' in
+    let ran = c.in-Ok-play_start.ensures in
+    let same : opening_image c.args.size run.disk ≡ image_in copy = (λ i. image_of (sym ready.copy_size i) (ran.opening i)) in
+    let sound = ran.sound (image_in copy) ready.placed (ap (λ (s : DiskState). s.durable) copy.fresh) refl in
+    let none : faulted_count run.report.steps.items ≡ 0 = none_faulted (faulted_count run.report.steps.items) (counts_of copy.disk).faults (counts_of run.disk).faults ran.faults (ran.unfailing copy.never_fails) copy.has_not_failed in
+    let before = (g.D.Disk.counts c.args.disk).faults in
+    let after = (g.D.Disk.counts c.start_on_copy.new.disk).faults in
+    record {
+      size_is = ran.size ∙ ready.size;
+      cut_is = ran.cut;
+      copy_is = (λ h. refl, λ h. refl);
+      opened = λ told. same ∙ ready.copied told;
+      lawful = λ told. subst (λ (i : List (List ℕ)). IsLawful i run.report) (sym same) sound.lawful;
+      outlives = λ told left crash. subst (λ (i : List (List ℕ)). IsCrashImage i (changes_of run.report.steps.items) left) (sym same) (sound.crashes left crash);
+      keeps = record { kept = λ told left crash. subst (λ (i : List (List ℕ)). KeepsFlushed i run.report left) (sym same) (sound.flushed left crash) };
+      faults = subst (λ (n : ℕ). RoseBy n before after) (sym none) (rose_by_none before after ready.only_reads.later);
+      no_faults = λ on_copy. none;
+      reads = λ on_copy. ready.only_reads;
+    }

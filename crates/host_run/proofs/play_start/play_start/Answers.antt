@@ -1,0 +1,35 @@
+use Rattle.std.proofs.Common.{◌≡◌, ◌∙◌, ℕ, ◌+◌, ◌≤◌, List, ap, map, subst, sym}
+use Rattle.std.specs.Prelude.{All, IfOk}
+use Rattle.host_block.specs.declared.range.Range.{Range}
+use Rattle.host_model.specs.Changes.{changes_of}
+use Rattle.host_play.specs.Plays.{IsReportOf, KeepsImage}
+use Rattle.host_start.specs.declared.places.Place.{Place}
+use Rattle.play_law.proofs.Runs.{played_runs_are_sound}
+use Rattle.play_law.specs.Runs.{IsSound}
+use Rattle.script_model.specs.Plans.{plans_of}
+use Rattle.host_run.proofs.Starts.{on_three, ranges_inside}
+use Rattle.host_run.proofs.play_start.play_start.Goals as goal
+
+pub play-requires-clause-inside : goal.play-requires-clause-inside
+play-requires-clause-inside g c κs within =
+    let start = c.args.start.now in
+    let same : c.deref.result.now ≡ map (λ (p : Place). p.range) start.places.items = c.deref.ensures.value ∙ (c.in-Ok.ensures ∙ ap (map (λ (p : Place). p.range)) c.as_slice.ensures.value) in
+    subst (All (λ (r : Range). r.first + r.count ≤ start.blocks)) (sym same) (ranges_inside start.blocks start.places.items start.inside)
+
+pub returns-clause-sound : goal.returns-clause-sound
+returns-clause-sound g c = λ image placed durable told.
+    let start = c.args.start.now in
+    let ranges : List Range = map (λ (p : Place). p.range) start.places.items in
+    let same : c.deref.result.now ≡ ranges = c.deref.ensures.value ∙ (c.in-Ok.ensures ∙ ap (map (λ (p : Place). p.range)) c.as_slice.ensures.value) in
+    let workers = c.args.setting.workers in
+    let depth = c.args.setting.depth in
+    on_three c.play.result
+    (λ run. IsReportOf (plans_of start.script) ranges workers depth run.report)
+    (λ run. (run.report.blocks ≡ start.blocks) × (run.report.size ≡ start.size) × (run.report.which ≡ start.which))
+    (λ run. KeepsImage image start.blocks start.size (changes_of run.report.steps.items) (g.D.Disk.state run.disk))
+    (λ run. IsSound image run.report (g.D.Disk.state run.disk))
+    (λ run of shown keeps. played_runs_are_sound image start workers depth run.report (g.D.Disk.state run.disk)
+    (record { placed = placed; blocks_are = shown.0; size_is = shown.1; which_is = shown.2; report_of = of; keeps = keeps }))
+    (subst (λ (l : List Range). IfOk c.play.result (λ run. IsReportOf (plans_of start.script) l workers depth run.report)) same c.play.ensures.report)
+    c.play.ensures.image
+    (subst (λ (i : List (List ℕ)). IfOk c.play.result (λ run. KeepsImage i start.blocks start.size (changes_of run.report.steps.items) (g.D.Disk.state run.disk))) durable (c.play.ensures.told told))
