@@ -4,7 +4,8 @@ use denote.Param.Send.{IsSend, AllSend, sendable, recorded_send, struct_send}
 use denote.Struct.Declared.{shape}
 use denote.Struct.Struct.{Struct}
 use Rattle.host_io.specs.declared.disk.Disk as disk
-use Rattle.host_device.proofs.Crossing.{device_send, table_seat_send}
+use Rattle.host_device.proofs.Crossing.{device_send}
+use Rattle.host_turn.proofs.Crossing.{table_seat_send}
 use Rattle.device_client.specs.contracts.hand.Hand as hand
 
 pub hand_row_send : (D : RattleType) (g : disk.Ghosts D.Denot) → IsSend D → IsSend (hand.the_row D g)

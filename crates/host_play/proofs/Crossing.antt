@@ -10,7 +10,8 @@ use Rattle.host_model.specs.contracts.event.Event as event
 use Rattle.host_model.specs.contracts.memory.MemEntry as mem_entry
 use Rattle.host_model.specs.contracts.row.TakenRow as row
 use Rattle.host_report.specs.contracts.session.SessionReport as report
-use Rattle.host_session.proofs.Crossing.{client_send, session_hand_send, table_seat_send}
+use Rattle.host_session.proofs.Crossing.{client_send, session_hand_send}
+use Rattle.host_turn.proofs.Crossing.{table_seat_send}
 use Rattle.host_worker.specs.contracts.hand.Hand as hand
 use Rattle.host_worker.specs.contracts.room.ClosingRoom as room
 use Rattle.host_play.specs.contracts.actor.Actor as actor

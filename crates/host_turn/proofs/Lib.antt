@@ -4,3 +4,4 @@ pub mod Histories
 pub mod Stepping
 pub mod Seating
 pub mod SeatLists
+pub mod Crossing

@@ -12,12 +12,24 @@ use atomic_table::{Refused, Seat, Table};
 use std::alloc::{AllocFailed, Global};
 use std::snapshot::Snapshot;
 use std::sync::Wait;
-use std::thread;
+use std::time::Duration;
+use std::{hint, thread};
 
 // Indexes of the words. Both count modulo 2^64.
 const NEXT: usize = 0;
 
 const SERVING: usize = 1;
+
+// How often a seat looks before it pauses, how often it does both before it draws a ticket, and how many of the first
+// pauses only let other threads run, where later ones sleep.
+const LOOKS: u32 = 100;
+
+const PAUSES: u32 = 1000;
+
+const SHORT_PAUSES: u32 = 2;
+
+// How many microseconds a sleep takes.
+const NAP: u64 = 50;
 
 /// A state behind a ticket lock. Its seats take turns, and whoever has the turn has the state.
 ///
@@ -118,9 +130,10 @@ impl<S: Story> Book<S> {
         ensures later { Continues S.maker (number seat.old) (seen_by seat.old) (seen_by seat.new) }
         ensures fixed_part { fixed_part seat.new ≡ Some (S.fixed result) }
     {
+        self.wait_for_quiet(rt);
         let ticket = self.draw_ticket(seat);
         for _ in rt.forever() {
-            if let Some(state) = self.try_turn(seat, ticket) {
+            if let Some(state) = self.try_often(seat, ticket) {
                 return state;
             }
             thread::yield_now();
@@ -148,6 +161,40 @@ impl<S: Story> Book<S> {
         unreachable!()
     }
 
+    // Waits until no ticket is out, but not for long. The turn goes to tickets in their order, and stands still while the
+    // thread whose ticket is served doesn't run, so as few as may be are drawn ahead.
+    fn wait_for_quiet<R: Wait>(&self, rt: &R) {
+        for pause in 0..PAUSES {
+            if self.is_quiet() {
+                return;
+            }
+            if pause < SHORT_PAUSES {
+                thread::yield_now();
+            } else {
+                self.nap(rt);
+            }
+        }
+    }
+
+    // Sleeps for a moment, unless the turn was passed on just before. It leaves the processor to the thread that has the turn.
+    fn nap<R: Wait>(&self, rt: &R) {
+        let shared = &self.table.shared;
+        let served = (shared.peek(SERVING) & 0xffff_ffff) as u32;
+        shared.park_timeout(rt, SERVING, served, Duration::from_micros(NAP));
+    }
+
+    // Whether a look found no ticket that is out. It tells nothing for certain: another seat may draw one in between.
+    fn is_quiet(&self) -> bool {
+        let shared = &self.table.shared;
+        for _ in 0..LOOKS {
+            if shared.peek(NEXT) == shared.peek(SERVING) {
+                return true;
+            }
+            hint::spin_loop();
+        }
+        false
+    }
+
     fn draw_ticket(&self, seat: &mut BookSeat<S>) -> u64
         requires { IsSeatOf self.now seat.old × IsOutside seat.old }
         ensures { IsSameSeat seat.old seat.new × IsWaiting result seat.new
@@ -155,6 +202,25 @@ impl<S: Story> Book<S> {
     {
         let shared = &self.table.shared;
         shared.fetch_add::<DrawTicket<S>>(&mut seat.seat, NEXT, 1)
+    }
+
+    // The state, where one of some looks finds the ticket served.
+    fn try_often(&self, seat: &mut BookSeat<S>, ticket: u64) -> Option<S>
+        requires { IsSeatOf self.now seat.old × IsWaiting ticket seat.old }
+        ensures same { IsSameSeat seat.old seat.new }
+        ensures state { MatchOption result
+            (IsWaiting ticket seat.new × (seen_by seat.new ≡ seen_by seat.old))
+            (λ x. IsInside seat.new × (S.story x ≡ seen_by seat.new)
+            × Continues S.maker (number seat.old) (seen_by seat.old) (seen_by seat.new)
+            × (fixed_part seat.new ≡ Some (S.fixed x))) }
+    {
+        for _ in 0..LOOKS {
+            if let Some(state) = self.try_turn(seat, ticket) {
+                return Some(state);
+            }
+            hint::spin_loop();
+        }
+        None
     }
 
     // The state, where the ticket is served.

@@ -1,10 +1,9 @@
 -- Where the disk may cross threads, a hand may, and threads may share a server.
 use denote.RattleType.{RattleType}
-use denote.Param.Send.{IsSend, IsSync, AllSend, AllSync, part_keyless, sendable, recorded_send, recorded_sync, struct_send, struct_sync}
+use denote.Param.Send.{IsSend, IsSync, AllSend, AllSync, sendable, recorded_send, recorded_sync, struct_send, struct_sync}
 use denote.Struct.Declared.{shape}
 use denote.Struct.Struct.{Struct}
 use Rattle.std.proofs.Crossing.{crosses}
-use Rattle.atomic_table.specs.contracts.shared.Seat as seat
 use Rattle.host_device.proofs.Crossing.{device_send}
 use Rattle.host_io.specs.declared.disk.Disk as disk
 use Rattle.host_model.specs.contracts.event.Event as event
@@ -12,16 +11,13 @@ use Rattle.host_model.specs.contracts.memory.MemEntry as mem_entry
 use Rattle.host_model.specs.contracts.row.TakenRow as row
 use Rattle.host_report.specs.contracts.session.SessionReport as report
 use Rattle.host_rings.specs.contracts.slip_sender.SlipSender as slip_sender
-use Rattle.host_session.proofs.Crossing.{intake_send, lease_send, lease_sync, memory_send, session_hand_send, session_shared_sync, table_seat_send, table_send, table_sync}
+use Rattle.host_session.proofs.Crossing.{intake_send, memory_send, session_hand_send, session_shared_sync}
 use Rattle.host_session.specs.contracts.hand.SessionHand as part
+use Rattle.host_turn.proofs.Crossing.{lease_send, lease_sync, table_seat_send, table_seat_sync, table_send, table_sync}
 use Rattle.host_worker.specs.contracts.hand.Hand as hand
 use Rattle.host_worker.specs.contracts.room.ClosingRoom as room
 use Rattle.host_worker.specs.contracts.server.Server as server
 use Rattle.host_worker.specs.contracts.session.Session as session
-
--- threads may share a seat of a table where the table's slots may cross them
-seat_sync : (S V : RattleType) → IsSend S → IsSync (seat.the_row S V)
-seat_sync S V s = record { shared = λ d b o ν q. part_keyless (seat.the_row S V) (table_seat_send S V s) q d b o }
 
 event_send : IsSend event.the_row
 event_send = search (sendable, crosses) depth 30 fits 10000
@@ -51,14 +47,14 @@ hand_send D g s =
     recorded_send (Struct (shape T)) T.D T.to T.to_one (struct_send (shape T) all)
 
 slip_sender_sync : IsSync slip_sender.the_row
-slip_sender_sync = search (sendable, crosses, seat_sync, table_send, table_sync, lease_send, lease_sync) depth 40 fits 10000
+slip_sender_sync = search (sendable, crosses, table_seat_sync, table_send, table_sync, lease_send, lease_sync) depth 40 fits 10000
 
 part_sync : IsSync part.the_row
 part_sync =
     let T = part.the_type in
     let i = intake_send in
     let m = memory_send in
-    let all : AllSync (shape T).fields = (search (sendable, seat_sync) depth 20, (search (sendable, seat_sync) depth 20, (slip_sender_sync, tt))) in
+    let all : AllSync (shape T).fields = (search (sendable, table_seat_sync) depth 20, (search (sendable, table_seat_sync) depth 20, (slip_sender_sync, tt))) in
     recorded_sync (Struct (shape T)) T.D T.to T.to_one (struct_sync (shape T) all)
 
 session_sync : IsSync session.the_row

@@ -13,7 +13,7 @@ use host_io::{Disk, Gate};
 use std::alloc::Global;
 use std::sync::Wait;
 
-/// A hand goes round the sessions until it has done something at one of them. It begins behind the one where it last did.
+/// A hand goes round the sessions until it has done something at one of them. It begins at the one where it last did.
 pub fn turn<R: Wait, D: Disk, G: Gate>(
     rt: &R,
     alloc: Global,
@@ -61,7 +61,7 @@ fn joined(first: Turn, second: Turn) -> Turn
 }
 
 // Whether a round did something.
-fn has_done(turn: Turn) -> bool
+pub(crate) fn has_done(turn: Turn) -> bool
     ensures { result ≡ has_done turn }
 {
     matches!(turn, Turn::Did)
@@ -106,7 +106,7 @@ fn go_over<R: Wait, D: Disk, G: Gate>(
     for k in from..to {
         let answer = visit(rt, alloc, server, hand, gate, k);
         if is_did(answer) {
-            hand.next = k + 1;
+            hand.next = k;
             return Turn::Did;
         }
         found = found_after(found, answer);

@@ -10,8 +10,9 @@ ghost use Rattle.host_worker.specs.Servers.{IsClientOf, IsServer};
 ghost use Rattle.host_worker.specs.Waits.{HasReceived, HasRoom, HasSent, KeepsRoom, KeepsRoomBut, MayWait};
 
 use crate::hand::Hand;
-use crate::round::turn;
+use crate::round::{has_done, turn};
 use crate::server::Server;
+use crate::turned::Turn;
 use host_io::{Disk, Gate};
 use host_session::{ClientEnd, SessionShared};
 use std::alloc::Global;
@@ -114,7 +115,7 @@ fn is_enough(received: u32, total: u32) -> bool
     received >= total
 }
 
-// Receives what is there, and takes a turn.
+// Receives what is there, and takes a turn, which begins at the client's own session.
 pub(crate) fn help<R: Wait, D: Disk, G: Gate>(
     rt: &R,
     alloc: Global,
@@ -133,9 +134,27 @@ pub(crate) fn help<R: Wait, D: Disk, G: Gate>(
     ensures room { KeepsRoom client.old client.new }
 {
     let shared = session_of(server, client);
+    begin_at(server, client, hand);
     receive(rt, shared, client);
-    turn(rt, alloc, server, hand, gate);
-    thread::yield_now();
+    pause_after(turn(rt, alloc, server, hand, gate));
+}
+
+// Lets other threads run where a turn did nothing.
+fn pause_after(turn: Turn) {
+    if !has_done(turn) {
+        thread::yield_now();
+    }
+}
+
+// The hand's next turn begins at the client's session.
+fn begin_at<D: Disk>(server: &Server<D>, client: &ClientEnd, hand: &mut Hand<D>)
+    requires server { IsServer server.now }
+    requires client { IsClientOf server.now client.now }
+    requires hand { IsHandOf server.now hand.old }
+    ensures hand { IsHandOf server.now hand.new }
+    ensures worked { HasWorked hand.old hand.new }
+{
+    hand.next = client.number() as usize - 1;
 }
 
 // Receives what is there.

@@ -2,7 +2,8 @@ use contract.Lifetimes.{Lfts}
 use denote.Param.{param}
 use denote.Param.Send.{IsSend, IsSync, sendable}
 use Rattle.std.proofs.Crossing.{crosses}
-use Rattle.host_device.proofs.Crossing.{device_send, table_seat_send, table_sync, lease_sync}
+use Rattle.host_device.proofs.Crossing.{device_send}
+use Rattle.host_turn.proofs.Crossing.{table_seat_send, table_sync, lease_sync}
 use Rattle.device_client.proofs.Crossing.{hand_row_send}
 use Rattle.device_client.proofs.pair.work_all.Given as given
 use Rattle.device_client.proofs.pair.work_all.Lts as lts

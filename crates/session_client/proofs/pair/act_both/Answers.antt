@@ -1,6 +1,7 @@
 use denote.Param.Send.{sendable}
 use Rattle.std.proofs.Crossing.{crosses}
-use Rattle.host_session.proofs.Crossing.{pool_sync, session_hand_send, session_shared_sync, table_seat_send}
+use Rattle.host_session.proofs.Crossing.{pool_sync, session_hand_send, session_shared_sync}
+use Rattle.host_turn.proofs.Crossing.{table_seat_send}
 use Rattle.session_client.proofs.Crossing.{judge_send}
 use Rattle.session_client.proofs.pair.act_both.Goals as goal
 
