@@ -1,1 +1,2 @@
+pub mod FileDisks
 pub mod Untold

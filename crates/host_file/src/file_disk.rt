@@ -24,7 +24,14 @@ pub struct FileDisk<R> {
 }
 
 impl<R: Files<File = File>> FileDisk<R> {
-    pub fn new(files: R) -> FileDisk<R> {
+    ghost use Rattle.std.specs.Prelude.{false};
+    ghost use Rattle.host_file.specs.FileDisks.{shape_of};
+
+    /// A disk to which no image is attached.
+    pub fn new(files: R) -> FileDisk<R>
+        ensures not_attached { (shape_of result).attached ≡ false }
+        ensures not_writable { (shape_of result).writable ≡ false }
+    {
         FileDisk {
             files,
             file: None,
@@ -56,10 +63,11 @@ impl<R: Files<File = File>> FileDisk<R> {
 }
 
 impl<R: Files<File = File>> Disk for FileDisk<R> {
-    ghost use Rattle.std.specs.Prelude.{false, [], is_some};
+    ghost use Rattle.std.specs.Prelude.{false, []};
+    ghost use Rattle.host_file.specs.FileDisks.{shape_of};
     ghost use Rattle.host_file.specs.Untold.{untold};
 
-    ghost shape = { λ d. record { tells = false; attached = is_some d.file; blocks = d.blocks; size = d.size } };
+    ghost shape = { λ d. shape_of d };
 
     ghost counts = { λ d. d.counts };
 

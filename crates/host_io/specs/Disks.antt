@@ -1,5 +1,5 @@
 -- What the calls of a disk give.
-use Rattle.std.specs.Prelude.{◌≡◌, ℕ, ◌≤◌, Bool, IsTrue, List, length, Result, Ok, Err, OnOk, IfOk, IsErrOf}
+use Rattle.std.specs.Prelude.{◌≡◌, ℕ, ◌≤◌, Bool, IsTrue, false, List, length, Result, Ok, Err, OnOk, IfOk, IsErrOf}
 use Rattle.host_block.specs.Disk.{DiskState, Outcome, done, failed, refused, read_of, fresh}
 use Rattle.host_io.specs.Causes.{next_count, Rose}
 use Rattle.host_io.specs.declared.counts.Counts.{Counts}
@@ -10,6 +10,7 @@ use Rattle.host_io.specs.declared.disk.DiskError.TheVariants.{Failed, Oom}
 pub record Shape : Type 0 where
   pub tells : Bool
   pub attached : Bool
+  pub writable : Bool
   pub blocks : ℕ
   pub size : ℕ
 
@@ -57,10 +58,17 @@ pub record Calls {T : Type 0} (before called now : Counts) (never_fails still_ne
   pub still : IsTrue never_fails → IsTrue still_never_fails
   pub no_fault : IsTrue never_fails → now.faults ≡ before.faults
 
--- What an attach at this size gives. A disk that tells has this image, with nothing pending.
-pub record Attaches {E : Type 0} (size : ℕ) (image : List (List ℕ)) (old new : Shape) (state : DiskState) (result : Result ℕ E) : Type 0 where
+-- No image was attached to be written: one can be written now only if one could before.
+abbrev pub OpensNone : Shape → Shape → Type 0
+OpensNone old new = IsTrue new.writable → IsTrue old.writable
+
+-- What an attach at this size gives, to be written or to be read alone. The latter opens none to be written, also where it
+-- fails. A disk that tells has this image, with nothing pending.
+pub record Attaches {E : Type 0} (size : ℕ) (writes : Bool) (image : List (List ℕ)) (old new : Shape) (state : DiskState) (result : Result ℕ E) : Type 0 where
   pub tells : new.tells ≡ old.tells
   pub is_attached : OnOk result (IsTrue new.attached)
+  pub writable : OnOk result (new.writable ≡ writes)
+  pub opens_none : writes ≡ false → OpensNone old new
   pub count : IfOk result (λ n. n ≡ new.blocks)
   pub of_size : OnOk result (new.size ≡ size)
   pub blocks : IsTrue old.tells → OnOk result (new.blocks ≡ length image)

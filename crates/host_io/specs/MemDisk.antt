@@ -28,7 +28,7 @@ abbrev pub image_held : MemDisk → List ℕ → ℕ → List (List ℕ)
 image_held d name size = image_of size (held_by d)
 
 abbrev pub shape_of : MemDisk → Shape
-shape_of d = record { tells = true; attached = d.attached; blocks = d.blocks; size = d.size }
+shape_of d = record { tells = true; attached = d.attached; writable = d.writable; blocks = d.blocks; size = d.size }
 
 abbrev pub state_of : MemDisk → DiskState
 state_of d = record { durable = cut d.size d.blocks d.bytes.items; pending = pairs_of d.waiting.items }
@@ -53,6 +53,7 @@ pub record IsMadeOf (bytes : List ℕ) (fails : List FailAt) (d : MemDisk) : Typ
   pub opening : opening_of d ≡ bytes
   pub held : held_by d ≡ bytes
   pub not_attached : (shape_of d).attached ≡ false
+  pub not_writable : (shape_of d).writable ≡ false
   pub no_blocks : (shape_of d).blocks ≡ 0
   pub nothing_waits : (state_of d).pending ≡ []
   pub listed : fails_of d ≡ fails

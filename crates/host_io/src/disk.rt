@@ -18,7 +18,7 @@ pub enum DiskError {
 }
 
 pub trait Disk {
-    /// Whether it tells its content, whether an image is attached, and the number and size of its blocks.
+    /// Whether it tells its content, whether an image is attached and may be written, and the number and size of its blocks.
     ghost shape: { Self → Shape };
 
     /// How often it has failed, and how many reads, writes and syncs were called.
@@ -36,10 +36,10 @@ pub trait Disk {
     /// Whether no call of it ever fails.
     ghost never_fails: { Self → Bool };
 
-    /// Attaches the image of this name, and gives its number of blocks. After an error it has to be attached again
-    /// before any other call.
+    /// Attaches the image of this name, to be written or to be read alone, and gives its number of blocks. After an
+    /// error it has to be attached again before any other call.
     fn attach_image(&mut self, name: &str, size: BlockSize, writes: bool) -> Result<u64, DiskError>
-        ensures attaches { Attaches size (image_named self.old name.now size) (shape self.old) (shape self.new) (state self.new) result }
+        ensures attaches { Attaches size writes (image_named self.old name.now size) (shape self.old) (shape self.new) (state self.new) result }
         ensures opening { opening self.new ≡ opening self.old }
         ensures calls { Calls (counts self.old) (counts self.old) (counts self.new) (never_fails self.old) (never_fails self.new) result };
 

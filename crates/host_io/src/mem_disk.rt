@@ -15,6 +15,7 @@ pub struct MemDisk {
     opening: Snapshot<Vec<u8>>,
     bytes: Vec<u8>,
     attached: bool,
+    writable: bool,
     blocks: u64,
     size: usize,
     waiting: Vec<Waiting>,
@@ -41,6 +42,7 @@ impl MemDisk {
             opening: Snapshot::of(&bytes),
             bytes,
             attached: false,
+            writable: false,
             blocks: 0,
             size: 0,
             waiting: Vec::new(alloc),
@@ -111,13 +113,8 @@ impl Disk for MemDisk {
 
     ghost of_size = { λ d told. cut_of_size d.blocks d.size d.bytes.items d.waiting.items d.whole d.fitting };
 
-    fn attach_image(
-        &mut self,
-        _name: &str,
-        size: BlockSize,
-        _writes: bool,
-    ) -> Result<u64, DiskError>
-        ensures attaches { Attaches size (image_held self.old _name.now size) (shape_of self.old) (shape_of self.new) (state_of self.new) result }
+    fn attach_image(&mut self, _name: &str, size: BlockSize, writes: bool) -> Result<u64, DiskError>
+        ensures attaches { Attaches size writes (image_held self.old _name.now size) (shape_of self.old) (shape_of self.new) (state_of self.new) result }
         ensures opening { opening_of self.new ≡ opening_of self.old }
         ensures calls { Calls (counts_of self.old) (counts_of self.old) (counts_of self.new) (never_fails_of self.old) (never_fails_of self.new) result }
         // What no disk owes but this one.
@@ -139,6 +136,7 @@ impl Disk for MemDisk {
         self.size = size.bytes() as usize;
         self.blocks = (self.bytes.len() / self.size) as u64;
         self.attached = true;
+        self.writable = writes;
         Ok(self.blocks)
     }
 

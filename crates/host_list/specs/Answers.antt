@@ -47,6 +47,13 @@ abbrev pub Attached : List (List ℕ) → Result ℕ ListError → Type 0
 Attached image (Ok blocks) = (blocks ≡ length image) × IsSmallEnough image
 Attached image (Err e) = Refuses image e
 
+-- the disk attached the image; where it failed or memory was refused, it may not have
+abbrev pub HasAttached : {T : Type 0} → Result T ListError → Type 0
+HasAttached (Ok x) = Unit {0}
+HasAttached (Err Disk) = ⊥
+HasAttached (Err Oom) = ⊥
+HasAttached (Err _) = Unit {0}
+
 -- opening an image
 abbrev pub Opens : List (List ℕ) → Result Opened ListError → Type 0
 Opens image (Ok o) = IsListed image o.blocks o.table

@@ -1,8 +1,8 @@
 // Attaching an image.
-ghost use Rattle.std.specs.Prelude.{◌≡◌, ◌≢◌, Err, IsErrOf, IsTrue};
+ghost use Rattle.std.specs.Prelude.{◌≡◌, ◌≢◌, false, Err, IsErrOf, IsTrue};
 ghost use Rattle.host_io.specs.Causes.{Rose};
-ghost use Rattle.host_io.specs.Disks.{Attaches, OnlyReads};
-ghost use Rattle.host_list.specs.Answers.{Attached};
+ghost use Rattle.host_io.specs.Disks.{Attaches, OnlyReads, OpensNone};
+ghost use Rattle.host_list.specs.Answers.{Attached, HasAttached};
 ghost use Rattle.host_list.specs.declared.list_error.ListError.TheVariants.{Disk as DiskFails, Sink as SinkFails};
 
 use crate::ListError;
@@ -17,7 +17,9 @@ pub fn attach<D: Disk>(image: &str, size: BlockSize, disk: &mut D) -> Result<u64
     ensures inside { result ≢ Err SinkFails }
     ensures fault { IsErrOf result DiskFails → Rose (D.counts disk.old).faults (D.counts disk.new).faults }
     ensures only_reads { OnlyReads (D.counts disk.old) (D.counts disk.new) (D.never_fails disk.old) (D.never_fails disk.new) }
-    ensures attaches { Attaches size (D.image_named disk.old image.now size) (D.shape disk.old) (D.shape disk.new) (D.state disk.new) result }
+    ensures opens_none { OpensNone (D.shape disk.old) (D.shape disk.new) }
+    ensures read_alone { HasAttached result → (D.shape disk.new).writable ≡ false }
+    ensures attaches { Attaches size false (D.image_named disk.old image.now size) (D.shape disk.old) (D.shape disk.new) (D.state disk.new) result }
     ensures attached { IsTrue (D.shape disk.old).tells → Attached (D.image_named disk.old image.now size) result }
 {
     let blocks = disk.attach_image(image, size, false)?;

@@ -23,15 +23,15 @@ pub struct Opened {
 }
 
 impl Opened {
-    ghost use Rattle.std.specs.Prelude.{◌≡◌, ◌≢◌, ◌⊎◌, Err, IfOk, IsErrOf, IsOk, IsTrue};
+    ghost use Rattle.std.specs.Prelude.{◌≡◌, ◌≢◌, ◌⊎◌, false, Err, IfOk, IsErrOf, IsOk, IsTrue};
     ghost use Rattle.host_io.specs.Causes.{Rose};
-    ghost use Rattle.host_io.specs.Disks.{OnlyReads};
-    ghost use Rattle.host_list.specs.Answers.{Opens};
+    ghost use Rattle.host_io.specs.Disks.{OnlyReads, OpensNone};
+    ghost use Rattle.host_list.specs.Answers.{HasAttached, Opens};
     ghost use Rattle.host_list.specs.Text.{list_text};
     ghost use Rattle.host_list.specs.declared.list_error.ListError.TheVariants.{Disk as DiskFails, Sink as SinkFails};
     ghost use Rattle.host_text.specs.Writing.{Writes};
 
-    /// Attaches an image and reads its table.
+    /// Attaches an image, to read alone, and reads its table.
     pub fn open<D: Disk>(
         alloc: Global,
         image: &str,
@@ -41,6 +41,8 @@ impl Opened {
         ensures inside { result ≢ Err SinkFails }
         ensures fault { IsErrOf result DiskFails → Rose (D.counts disk.old).faults (D.counts disk.new).faults }
         ensures only_reads { OnlyReads (D.counts disk.old) (D.counts disk.new) (D.never_fails disk.old) (D.never_fails disk.new) }
+        ensures opens_none { OpensNone (D.shape disk.old) (D.shape disk.new) }
+        ensures read_alone { HasAttached result → (D.shape disk.new).writable ≡ false }
         ensures size { IfOk result (λ opened. opened.size ≡ size) }
         ensures opens { IsTrue (D.shape disk.old).tells → Opens (D.image_named disk.old image.now size) result }
     {

@@ -1,7 +1,7 @@
 //! `list`: the text of an image's partition table.
 ghost use Rattle.std.specs.Prelude.{◌≡◌, None};
 ghost use Rattle.host_io.specs.Causes.{Rose};
-ghost use Rattle.host_io.specs.Disks.{OnlyReads};
+ghost use Rattle.host_io.specs.Disks.{OnlyReads, OpensNone};
 ghost use Rattle.host_run.specs.Listed.{ListLeaves};
 ghost use Rattle.host_run.specs.Refusals.{refusal_line, start_status};
 ghost use Rattle.host_run.specs.Writes.{PutsText};
@@ -29,6 +29,7 @@ pub fn list<D: Disk, K: Sink>(
     ensures disk_fault { result.status ≡ DiskFault → Rose (D.counts disk).faults (D.counts result.disk).faults }
     ensures sink_fault { result.status ≡ SinkFault → Rose (K.faults out.old) (K.faults out.new) }
     ensures only_reads { OnlyReads (D.counts disk) (D.counts result.disk) (D.never_fails disk) (D.never_fails result.disk) }
+    ensures opens_none { OpensNone (D.shape disk) (D.shape result.disk) }
     ensures no_dry { result.dry ≡ None }
     ensures no_report { result.report ≡ None }
     ensures not_served { result.served ≡ None }

@@ -1,5 +1,6 @@
 //! A script is played on a copy of an image.
 ghost use Rattle.std.specs.Prelude.{◌≡◌, true, IfErr, IfOk};
+ghost use Rattle.host_io.specs.Disks.{OpensNone};
 ghost use Rattle.host_play.specs.Stages.{IsSetting};
 ghost use Rattle.host_start.specs.Reading.{IsFit};
 ghost use Rattle.host_worker.specs.Gathered.{reported};
@@ -34,6 +35,8 @@ pub fn play_on_copy<R: Threads + Wait + Sync, D: Disk, G: Gate + Sync>(
     ensures served { IfOk result (λ run. reported run.served ≡ run.report) }
     ensures ran { IfOk result (λ run. IsRunOn (record { on_copy = true; size = size; tells = (D.shape disk).tells; image = D.image_named disk image.now size; state = D.state run.disk; counts = D.counts disk; new_counts = D.counts run.disk; never_fails = D.never_fails disk; still_never_fails = D.never_fails run.disk; copy = run.dry }) setting.cut run.report) }
     ensures refused { IfErr result (λ no. IsNoRun (record { on_copy = true; size = size; tells = (D.shape disk).tells; image = D.image_named disk image.now size; state = D.state no.disk; counts = D.counts disk; new_counts = D.counts no.disk; never_fails = D.never_fails disk; still_never_fails = D.never_fails no.disk; copy = no.dry }) (plans_of script) no.error) }
+    ensures opens_none { IfOk result (λ run. OpensNone (D.shape disk) (D.shape run.disk)) }
+    ensures refused_opens_none { IfErr result (λ no. OpensNone (D.shape disk) (D.shape no.disk)) }
 {
     let mut disk = disk;
     match start_on_copy(alloc, script, &mut disk, image, size) {

@@ -1,6 +1,7 @@
 //! A script is played and told.
-ghost use Rattle.std.specs.Prelude.{◌≡◌, ◌≢◌, IfNone, IfSome};
+ghost use Rattle.std.specs.Prelude.{◌≡◌, ◌≢◌, IfNone, IfSome, IsTrue};
 ghost use Rattle.host_io.specs.Causes.{Rose};
+ghost use Rattle.host_io.specs.Disks.{OpensNone};
 ghost use Rattle.host_play.specs.Stages.{IsSetting};
 ghost use Rattle.host_run.specs.Ending.{Ends, IsItsScript, Origin};
 ghost use Rattle.host_run.specs.Played.{IsComplete, Leaves};
@@ -52,6 +53,7 @@ pub fn play_and_tell<R: Threads + Wait + Sync, D: Disk + Send, K: Sink, G: Gate 
     // How it ends, wherever the script comes from.
     ensures ends { (origin : Origin) → IsItsScript size origin (plans_of script) → Ends (record { size = size; workers = mode.setting.workers; depth = mode.setting.depth; origin = origin; disk_tells = (D.shape disk).tells; image = D.image_named disk image.now size }) result.status result.report }
     ensures leaves { Leaves (record { on_copy = mode.dry; size = size; tells = (D.shape disk).tells; image = D.image_named disk image.now size; state = D.state result.disk; counts = D.counts disk; new_counts = D.counts result.disk; never_fails = D.never_fails disk; still_never_fails = D.never_fails result.disk; copy = result.dry }) mode.setting.cut result.report }
+    ensures opens_none { IsTrue mode.dry → OpensNone (D.shape disk) (D.shape result.disk) }
     ensures complete { IfSome result.report (IsComplete (Rose (D.counts disk).faults (D.counts result.disk).faults) (Rose (K.faults out.old) (K.faults out.new)) result.status) }
     ensures report { HasRunReport result.status result.report }
     ensures served { IsServedAs result.served result.report }
@@ -82,6 +84,8 @@ fn play_script<R: Threads + Wait + Sync, D: Disk + Send, G: Gate + Sync>(
     ensures served { IfOk result (λ run. reported run.served ≡ run.report) }
     ensures ran { IfOk result (λ run. IsRunOn (record { on_copy = mode.dry; size = size; tells = (D.shape disk).tells; image = D.image_named disk image.now size; state = D.state run.disk; counts = D.counts disk; new_counts = D.counts run.disk; never_fails = D.never_fails disk; still_never_fails = D.never_fails run.disk; copy = run.dry }) mode.setting.cut run.report) }
     ensures refused { IfErr result (λ no. IsNoRun (record { on_copy = mode.dry; size = size; tells = (D.shape disk).tells; image = D.image_named disk image.now size; state = D.state no.disk; counts = D.counts disk; new_counts = D.counts no.disk; never_fails = D.never_fails disk; still_never_fails = D.never_fails no.disk; copy = no.dry }) (plans_of script) no.error) }
+    ensures opens_none { IsTrue mode.dry → IfOk result (λ run. OpensNone (D.shape disk) (D.shape run.disk)) }
+    ensures refused_opens_none { IsTrue mode.dry → IfErr result (λ no. OpensNone (D.shape disk) (D.shape no.disk)) }
 {
     if mode.dry {
         play_on_copy(rt, alloc, script, image, size, mode.setting, disk, gate)

@@ -1,6 +1,7 @@
 //! `run`: a script is read and played.
-ghost use Rattle.std.specs.Prelude.{◌≡◌, ◌≢◌, IfNone, IfSome};
+ghost use Rattle.std.specs.Prelude.{◌≡◌, ◌≢◌, IfNone, IfSome, IsTrue};
 ghost use Rattle.host_io.specs.Causes.{Rose};
+ghost use Rattle.host_io.specs.Disks.{OpensNone};
 ghost use Rattle.host_play.specs.Stages.{IsSetting};
 ghost use Rattle.host_run.specs.Ending.{Ends, IsDoneWherePlayable, read};
 ghost use Rattle.host_run.specs.Played.{IsComplete, Leaves};
@@ -42,6 +43,7 @@ pub fn run_script<R: Threads + Wait + Sync, S: Source, D: Disk + Send, K: Sink, 
     ensures ends { Ends (record { size = size; workers = mode.setting.workers; depth = mode.setting.depth; origin = read (S.tells source.old) (S.left source.old) (S.left source.new); disk_tells = (D.shape disk).tells; image = D.image_named disk image.now size }) result.status result.report }
     ensures playable { IsDoneWherePlayable (record { size = size; workers = mode.setting.workers; depth = mode.setting.depth; origin = read (S.tells source.old) (S.left source.old) (S.left source.new); disk_tells = (D.shape disk).tells; image = D.image_named disk image.now size }) (Rose (S.faults source.old) (S.faults source.new)) (Rose (D.counts disk).faults (D.counts result.disk).faults) (Rose (K.faults out.old) (K.faults out.new)) result.status }
     ensures leaves { Leaves (record { on_copy = mode.dry; size = size; tells = (D.shape disk).tells; image = D.image_named disk image.now size; state = D.state result.disk; counts = D.counts disk; new_counts = D.counts result.disk; never_fails = D.never_fails disk; still_never_fails = D.never_fails result.disk; copy = result.dry }) mode.setting.cut result.report }
+    ensures opens_none { IsTrue mode.dry → OpensNone (D.shape disk) (D.shape result.disk) }
     ensures complete { IfSome result.report (IsComplete (Rose (D.counts disk).faults (D.counts result.disk).faults) (Rose (K.faults out.old) (K.faults out.new)) result.status) }
     ensures report { HasRunReport result.status result.report }
     ensures served { IsServedAs result.served result.report }

@@ -1,7 +1,7 @@
 //! The top call.
 ghost use Rattle.std.specs.Prelude.{◌≡◌, ◌≢◌, ◌⊎◌, map, false, None, IfNone, IfSome};
 ghost use Rattle.host_io.specs.Causes.{Rose};
-ghost use Rattle.host_io.specs.Disks.{OnlyReads};
+ghost use Rattle.host_io.specs.Disks.{OnlyReads, OpensNone};
 ghost use Rattle.host_run.specs.Copies.{stood_on};
 ghost use Rattle.host_run.specs.Ending.{Ends, IsDoneWherePlayable, origin_of};
 ghost use Rattle.host_run.specs.Listed.{ListLeaves};
@@ -72,9 +72,10 @@ pub fn run<'a, R: Threads + Wait + Sync, S: Source, D: Disk + Send, K: Sink, G: 
     ensures complete { IfSome result.report (IsComplete (Rose (D.counts disk).faults (D.counts result.disk).faults) (Rose (K.faults out.old) (K.faults out.new)) result.status) }
 
     // What is left of the disks: the copy, which opened with the image, and the disk handed in, which was only read unless
-    // sessions were played on it.
+    // sessions were played on it. No image was attached there to be written but where the words ask for that.
     ensures leaves { IfSome (playing_in (command_of (map (λ w. w.now) words.entry.now))) (λ playing. Leaves (record { on_copy = playing.dry; size = playing.size; tells = (D.shape disk).tells; image = D.image_named disk playing.name playing.size; state = D.state result.disk; counts = D.counts disk; new_counts = D.counts result.disk; never_fails = D.never_fails disk; still_never_fails = D.never_fails result.disk; copy = result.dry }) playing.cut result.report) }
     ensures only_reads { plays_on_disk (command_of (map (λ w. w.now) words.entry.now)) ≡ false → OnlyReads (D.counts disk) (D.counts result.disk) (D.never_fails disk) (D.never_fails result.disk) }
+    ensures opens_none { plays_on_disk (command_of (map (λ w. w.now) words.entry.now)) ≡ false → OpensNone (D.shape disk) (D.shape result.disk) }
     ensures refused_reads { IfNone result.report (OnlyReads (D.counts disk) (D.counts result.disk) (D.never_fails disk) (D.never_fails result.disk)) }
     ensures dry { IfSome (playing_in (command_of (map (λ w. w.now) words.entry.now))) (λ playing. HandsOut playing.dry result.dry result.status result.report) }
     ensures no_dry { playing_in (command_of (map (λ w. w.now) words.entry.now)) ≡ None → result.dry ≡ None }

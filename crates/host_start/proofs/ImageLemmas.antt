@@ -100,11 +100,11 @@ after_tables (Err e) is = after_table e is
 
 -- ---- an attached disk
 
-pub attached_by : (r : Result Start StartError) (blocks size : ℕ) (tells : Bool) (shape shape' : Shape) → IfOk r (λ (s : Start). s.blocks ≡ blocks) → IsTrue shape.attached → blocks ≡ shape.blocks → shape.size ≡ size
+pub attached_by : (r : Result Start StartError) (blocks size : ℕ) (tells : Bool) (shape shape' : Shape) → IfOk r (λ (s : Start). s.blocks ≡ blocks) → IsTrue shape.attached → IsTrue shape.writable → blocks ≡ shape.blocks → shape.size ≡ size
     → shape.tells ≡ tells → shape' ≡ shape → IfOk r (λ (s : Start). IsAttached s.blocks size tells shape')
-attached_by (Ok start) blocks size tells shape shape' same attached count of_size told kept =
-    subst (λ (t : Shape). IsAttached start.blocks size tells t) (sym kept) (record { attached = attached; count = sym count ∙ sym same; of_size = of_size; told = told })
-attached_by (Err e) blocks size tells shape shape' same attached count of_size told kept = tt
+attached_by (Ok start) blocks size tells shape shape' same attached writable count of_size told kept =
+    subst (λ (t : Shape). IsAttached start.blocks size tells t) (sym kept) (record { attached = attached; writable = writable; count = sym count ∙ sym same; of_size = of_size; told = told })
+attached_by (Err e) blocks size tells shape shape' same attached writable count of_size told kept = tt
 
 pub fresh_by : (r : Result Start StartError) (s s' t : DiskState) → s' ≡ s → s ≡ t → OnOk r (s' ≡ t)
 fresh_by (Ok start) s s' t kept attached = kept ∙ attached

@@ -22,9 +22,10 @@ IsSmallEnough image = length image ≤ 262144
 abbrev pub parts_of : List SessionPlan → List ℕ
 parts_of plans = map (λ plan. plan.part) plans
 
--- an image of so many blocks of this size is attached to a disk that tells or doesn't
+-- an image of so many blocks of this size is attached, to be written, to a disk that tells or doesn't
 pub record IsAttached (blocks size : ℕ) (tells : Bool) (shape : Shape) : Type 0 where
   pub attached : IsTrue shape.attached
+  pub writable : IsTrue shape.writable
   pub count : shape.blocks ≡ blocks
   pub of_size : shape.size ≡ size
   pub told : shape.tells ≡ tells

@@ -62,6 +62,11 @@ IsOfContent (error.TooLarge limit.Table) = Unit {0}
 IsOfContent (error.NoPart session part) = Unit {0}
 IsOfContent _ = ⊥
 
+-- refusals that come only where the image was attached
+abbrev pub IsAfterAttach : StartError → Type 0
+IsAfterAttach (error.TooLarge limit.Blocks) = Unit {0}
+IsAfterAttach e = IsOfContent e
+
 -- refusals of the table and of the partitions
 abbrev pub IsOfTable : StartError → Type 0
 IsOfTable error.Disk = Unit {0}

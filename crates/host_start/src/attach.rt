@@ -2,6 +2,7 @@
 ghost use Rattle.std.specs.Prelude.{◌≡◌, ◌≤◌, IsErrOf, IsTrue, IfOk, IfErr};
 ghost use Rattle.host_io.specs.Causes.{Rose};
 ghost use Rattle.host_io.specs.Disks.{Attaches, OnlyReads};
+ghost use Rattle.host_start.specs.Copies.{HasAttached};
 ghost use Rattle.host_start.specs.Images.{Attached};
 ghost use Rattle.host_start.specs.Refusals.{IsOfImage};
 ghost use Rattle.host_start.specs.declared.error.StartError.TheVariants.{Disk as DiskFails};
@@ -24,8 +25,9 @@ pub fn attach<D: Disk>(
     ensures fault { IsErrOf result DiskFails → Rose (D.counts disk.old).faults (D.counts disk.new).faults }
     ensures only_reads { OnlyReads (D.counts disk.old) (D.counts disk.new) (D.never_fails disk.old) (D.never_fails disk.new) }
     ensures opening { D.opening disk.new ≡ D.opening disk.old }
-    ensures attaches { Attaches size (D.image_named disk.old image.now size) (D.shape disk.old) (D.shape disk.new) (D.state disk.new) result }
+    ensures attaches { Attaches size writes (D.image_named disk.old image.now size) (D.shape disk.old) (D.shape disk.new) (D.state disk.new) result }
     ensures attached { IsTrue (D.shape disk.old).tells → Attached (D.image_named disk.old image.now size) result }
+    ensures as_asked { HasAttached result → (D.shape disk.new).writable ≡ writes }
     ensures few { IfOk result (λ blocks. blocks ≤ 262144) }
 {
     let blocks = disk.attach_image(image, size, writes)?;

@@ -28,11 +28,11 @@ pub struct ImageCopy {
 }
 
 impl ImageCopy {
-    ghost use Rattle.std.specs.Prelude.{◌≡◌, ◌≤◌, IfOk, IfErr, IsErrOf, IsTrue};
+    ghost use Rattle.std.specs.Prelude.{◌≡◌, ◌≤◌, false, IfOk, IfErr, IsErrOf, IsTrue};
     ghost use Rattle.host_io.specs.Causes.{Rose};
-    ghost use Rattle.host_io.specs.Disks.{OnlyReads};
+    ghost use Rattle.host_io.specs.Disks.{OnlyReads, OpensNone};
     ghost use Rattle.host_io.specs.Flat.{image_of};
-    ghost use Rattle.host_start.specs.Copies.{Copies, image_in};
+    ghost use Rattle.host_start.specs.Copies.{Copies, HasAttached, image_in};
     ghost use Rattle.host_start.specs.Refusals.{IsOfImage};
     ghost use Rattle.host_start.specs.declared.error.StartError.TheVariants.{Disk as DiskFails};
 
@@ -46,6 +46,8 @@ impl ImageCopy {
         ensures cause { IfErr result IsOfImage }
         ensures fault { IsErrOf result DiskFails → Rose (D.counts disk.old).faults (D.counts disk.new).faults }
         ensures only_reads { OnlyReads (D.counts disk.old) (D.counts disk.new) (D.never_fails disk.old) (D.never_fails disk.new) }
+        ensures opens_none { OpensNone (D.shape disk.old) (D.shape disk.new) }
+        ensures read_alone { HasAttached result → (D.shape disk.new).writable ≡ false }
         ensures copied { IsTrue (D.shape disk.old).tells → Copies (D.image_named disk.old image.now size) result }
         ensures size { IfOk result (λ copy. copy.size ≡ size) }
         ensures few { IfOk result (λ copy. copy.blocks ≤ 262144) }

@@ -1,9 +1,9 @@
 // From a script and a disk to what a run needs.
-ghost use Rattle.std.specs.Prelude.{◌≡◌, ◌↔◌, ◌≤◌, IfOk, IfErr, IfSome, OnOk, IsErrOf, IsSome, IsTrue, true};
+ghost use Rattle.std.specs.Prelude.{◌≡◌, ◌↔◌, ◌≤◌, IfOk, IfErr, IfSome, OnOk, IsErrOf, IsSome, IsTrue, false, true};
 ghost use Rattle.host_block.specs.Disk.{fresh};
 ghost use Rattle.host_io.specs.Causes.{Rose};
-ghost use Rattle.host_io.specs.Disks.{OnlyReads};
-ghost use Rattle.host_start.specs.Copies.{image_in};
+ghost use Rattle.host_io.specs.Disks.{OnlyReads, OpensNone};
+ghost use Rattle.host_start.specs.Copies.{HasStarted, image_in};
 ghost use Rattle.host_start.specs.Images.{IsAttached, IsPlaced, SaysOfImage, parts_of};
 ghost use Rattle.host_start.specs.Reading.{IsFit};
 ghost use Rattle.host_start.specs.Refusals.{IsAfterScript, IsOfContent, IsOfTable};
@@ -46,7 +46,7 @@ pub fn start_on_disk<D: Disk>(
     ensures script { IfOk result (λ start. start.script ≡ script) }
     ensures size { IfOk result (λ start. start.size ≡ size) }
 
-    // The disk is attached, and holds the image as it was handed in, where it tells.
+    // The disk is attached, to be written, and holds the image as it was handed in, where it tells.
     ensures shape { IfOk result (λ start. IsAttached start.blocks size (D.shape disk.old).tells (D.shape disk.new)) }
     ensures state { IsTrue (D.shape disk.old).tells → OnOk result (D.state disk.new ≡ fresh (D.image_named disk.old image.now size)) }
     ensures opening { D.opening disk.new ≡ D.opening disk.old }
@@ -73,6 +73,8 @@ pub fn start_on_copy<D: Disk>(
     ensures cause { IfErr result (λ no. IsAfterScript no.error) }
     ensures fault { IfErr result (λ no. no.error ≡ DiskFails → Rose (D.counts disk.old).faults (D.counts disk.new).faults) }
     ensures only_reads { OnlyReads (D.counts disk.old) (D.counts disk.new) (D.never_fails disk.old) (D.never_fails disk.new) }
+    ensures opens_none { OpensNone (D.shape disk.old) (D.shape disk.new) }
+    ensures read_alone { HasStarted result → (D.shape disk.new).writable ≡ false }
     ensures script { IfOk result (λ ready. ready.start.script ≡ script) }
     ensures size { IfOk result (λ ready. ready.start.size ≡ size) }
 

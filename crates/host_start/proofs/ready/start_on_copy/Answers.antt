@@ -12,6 +12,9 @@ use Rattle.host_start.proofs.ready.start_on_copy.Goals as goal
 pub returns-in-Err-clause-cause : goal.returns-in-Err-clause-cause
 returns-in-Err-clause-cause g c = after_image c.in-Err.error c.in-Err.ensures.cause
 
+pub returns-in-Err-clause-read_alone : goal.returns-in-Err-clause-read_alone
+returns-in-Err-clause-read_alone g c = c.in-Err.ensures.read_alone
+
 pub returns-in-Err-clause-refused : goal.returns-in-Err-clause-refused
 returns-in-Err-clause-refused g c = λ told. says_early _ [] _ c.in-Err.error c.in-Err.ensures.cause (c.in-Err.ensures.copied told)
 

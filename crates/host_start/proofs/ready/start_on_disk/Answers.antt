@@ -16,7 +16,7 @@ returns-in-Ok-clause-cause g c = after_tables c.on.result c.on.ensures.cause
 pub returns-in-Ok-clause-shape : goal.returns-in-Ok-clause-shape
 returns-in-Ok-clause-shape g c =
     let attached = c.in-Ok.ensures.attaches in
-    attached_by c.on.result c.in-Ok.blocks c.args.size (g.D.Disk.shape c.args.disk.now).tells (g.D.Disk.shape c.attach.new.disk) (g.D.Disk.shape c.on.new.disk) c.on.ensures.blocks attached.is_attached attached.count attached.of_size attached.tells c.on.ensures.shape
+    attached_by c.on.result c.in-Ok.blocks c.args.size (g.D.Disk.shape c.args.disk.now).tells (g.D.Disk.shape c.attach.new.disk) (g.D.Disk.shape c.on.new.disk) c.on.ensures.blocks attached.is_attached attached.writable attached.count attached.of_size attached.tells c.on.ensures.shape
 
 pub returns-in-Ok-clause-state : goal.returns-in-Ok-clause-state
 returns-in-Ok-clause-state g c = λ told. fresh_by c.on.result _ _ _ c.on.ensures.state (c.in-Ok.ensures.attaches.content told)

@@ -16,6 +16,8 @@ returns-clause-attaches c =
     record {
       tells = refl;
       is_attached = refl;
+      writable = refl;
+      opens_none = λ closed writable. absurd (cc (sym closed ∙ writable));
       count = refl;
       of_size = c.bytes.ensures.value;
       blocks = λ told. sym (length-cut c.bytes.result (c.len.result / c.bytes.result) c.settle.new.bytes.items) ∙ ap (λ (s : DiskState). length s.durable) state;
