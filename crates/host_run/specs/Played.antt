@@ -17,6 +17,7 @@ use Rattle.host_report.specs.declared.report.Report.{Report}
 use Rattle.host_run.specs.Copies.{Stood, opening_image, stood_on}
 use Rattle.host_run.specs.declared.status.RunStatus.{RunStatus}
 use Rattle.host_run.specs.declared.status.RunStatus.TheVariants.{Done, OutOfMemory}
+use Rattle.report_law.specs.Runs.{IsLawfulOnAnyDisk}
 use Rattle.host_start.specs.Images.{SaysOfImage, parts_of}
 use Rattle.host_start.specs.Refusals.{IsAfterScript, IsOfContent}
 use Rattle.host_start.specs.declared.error.StartError.{StartError}
@@ -31,10 +32,11 @@ abbrev pub ranges_in : Report → List Range
 ranges_in report = map (λ session. session.range) report.sessions.items
 
 -- The report is of a run that played these plans, and was gathered from a server that was started with a session for each
--- plan and finished.
+-- plan and finished. On whatever disk it was played, all of it is lawful but what the image says.
 pub record IsPlayOf (plans : List SessionPlan) (workers depth : ℕ) (report : Report) : Type 0 where
   pub played : PlaysPlans plans report
   pub gathered : IsReportOf plans (ranges_in report) workers depth report
+  pub lawful : IsLawfulOnAnyDisk report
 
 -- the report is lawful for the image that the disk which it was played on held
 abbrev pub IsLawfulOn : Stood → Report → Type 0
