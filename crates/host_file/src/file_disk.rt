@@ -6,7 +6,7 @@ ghost use Rattle.host_io.specs.declared.disk.DiskError.TheVariants.{Failed};
 
 use host_block::BlockSize;
 use host_io::{Counts, Disk, DiskError};
-use std::fs::{File, OpenOptions};
+use std::fs::{self, File, OpenOptions};
 use std::os::unix::fs::FileExt;
 use std::rt::Files;
 
@@ -47,15 +47,18 @@ impl<R: Files<File = File>> FileDisk<R> {
         }
     }
 
-    // Opens the file, and gives its length.
+    // Opens the file, and gives its length. What is no file isn't opened, since the opening of a named pipe waits for a writer.
     fn open(&self, name: &str, writes: bool) -> Option<(File, u64)> {
+        if !fs::metadata(&self.files, name).ok()?.is_file() {
+            return None;
+        }
         let file = OpenOptions::new()
             .read(true)
             .write(writes)
             .open(&self.files, name)
             .ok()?;
         let about = file.metadata().ok()?;
-        if about.is_dir() || about.len() == 0 {
+        if !about.is_file() || about.len() == 0 {
             return None;
         }
         Some((file, about.len()))
