@@ -9,6 +9,7 @@ use host_run::run;
 use std::alloc::AllocError;
 use std::fs::File;
 use std::io;
+use std::mem::forget;
 use std::process::ExitCode;
 use std::sync::Wait;
 use std::thread::Threads;
@@ -42,7 +43,10 @@ fn run_program<R: Threads + Wait + Sync>(rt: &HostRuntime, threads: &R) -> io::R
         &mut out,
         &OpenGate,
     );
-    Ok(outcome.status.number())
+    let number = outcome.status.number();
+    // The process ends now, and its memory goes back with it. Giving back a long report piece by piece would take longer.
+    forget(outcome);
+    Ok(number)
 }
 
 // The words after the program's name. Words that are no text are outside the grammar, as no words are, and are taken for

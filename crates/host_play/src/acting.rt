@@ -8,6 +8,7 @@ ghost use Rattle.host_play.specs.Calls.{CanPlay, HasHelped, HasWorkedAlone};
 ghost use Rattle.host_play.specs.Casts.{AllHavePlayed};
 
 use crate::actor::{Actor, Client};
+use crate::ahead::ask_ahead;
 use crate::client::play_session;
 use host_io::{Disk, Gate};
 use host_worker::{Hand, Server, Turn, turn};
@@ -34,6 +35,7 @@ pub fn act_all<R: Threads + Wait + Sync, D: Disk + Send, G: Gate + Sync>(
     ensures { AllHavePlayed server.now (plans_of script.now) actors.old actors.new }
 {
     actors.reverse();
+    ask_ahead(alloc);
     act_each(rt, alloc, server, actors, script, gate);
     actors.reverse();
 }
@@ -75,6 +77,7 @@ fn act<R: Wait, D: Disk, G: Gate>(
     requires cast { IsCast server.now (plans_of script.now) actor.old }
     ensures { HasPlayedPart server.now (plans_of script.now) actor.old actor.new }
 {
+    ask_ahead(alloc);
     match &mut actor.client {
         Some(client) => play(rt, alloc, server, client, &mut actor.hand, script, gate),
         None => work(rt, alloc, server, &mut actor.hand, gate),

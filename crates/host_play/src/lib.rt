@@ -3,6 +3,7 @@
 
 mod acting;
 mod actor;
+mod ahead;
 mod casting;
 mod client;
 mod closing;
