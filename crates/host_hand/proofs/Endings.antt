@@ -1,10 +1,10 @@
 -- How the records of a hand ended stays so, while the hand works on another record.
-use Rattle.std.proofs.Common.{◌≡◌, ◌≢◌, ℕ, zero, suc, ◌+◌, ◌≤◌, ◌<◌, Bool, true, false, not, ◌&&◌, ◌==◌, cond, IsTrue, List, [], ◌∷◌, ◌++◌, length, map, filter, filter_map, take, Option, Some, None, refl, sym, ap, ap₂, subst, ◌∙◌, ◌⊎◌, inl, inr, arith, append-nil, eq-eqb, ne_eqb}
+use Rattle.std.proofs.Common.{◌≡◌, ◌≢◌, ℕ, ◌≤◌, ◌<◌, Bool, true, false, ◌&&◌, ◌==◌, cond, List, [], ◌∷◌, ◌++◌, length, filter, filter_map, take, Option, Some, None, refl, sym, ap, ap₂, ◌∙◌, ◌⊎◌, inl, inr, arith, append-nil, eq-eqb, ne_eqb}
 use Rattle.std.specs.Prelude.{MatchOption, is_some}
 use Rattle.std.specs.Bool.{then_some}
 use Rattle.std.specs.List.{All, cons_option, slice_get}
 use Rattle.std.proofs.lemmas.List.{map-append, take-append-le}
-use Rattle.std.proofs.lemmas.List.Elements.{All-nil, All-cons, All-append, All-head, All-tail, filter-append, filter_map-append}
+use Rattle.std.proofs.lemmas.List.Elements.{All-nil, All-cons, All-head, All-tail, filter-append, filter_map-append}
 use Rattle.std.proofs.lemmas.Option.{slice_get_within}
 use mathlib.Core.List.{IsPrefix}
 use Rattle.host_block.specs.declared.range.Range.{Range}
@@ -20,12 +20,11 @@ use Rattle.host_memory.specs.State.{events}
 use Rattle.host_turn.specs.History.{entries_of}
 use Rattle.host_intake.specs.declared.entry.IntakeEntry.{IntakeEntry}
 use Rattle.host_intake.specs.Entries.{Landing, Taking, request_in, takings}
-use Rattle.host_intake.specs.Takings.{under}
-use Rattle.host_hand.specs.Growth.{EachOwn, HasGrown}
+use Rattle.host_hand.specs.Growth.{HasGrown}
 use Rattle.host_session.specs.Moves.{moves_for, moves_owed}
 use Rattle.host_hand.specs.Records.{HasClosed, HasEnded, HasReleased, IsClosedBefore, IsEnding, asks_in, steps_for}
 use Rattle.host_hand.proofs.Entered.{taken_longer, taking_longer}
-use Rattle.host_hand.proofs.Growing.{longer_length, own_grown, stands_longer}
+use Rattle.host_hand.proofs.Growing.{own_grown, stands_longer}
 
 pub all_map : {A : Type 0} (P Q : A → Type 0) (xs : List A) → ((x : A) → P x → Q x) → All P xs → All Q xs
 all_map P Q [] f h = All-nil Q

@@ -1,9 +1,8 @@
 -- A record has ended: what the hand keeps then.
-use Rattle.std.proofs.Common.{◌≡◌, ◌≢◌, ℕ, zero, suc, ◌+◌, ◌≤◌, ◌<◌, Bool, true, false, not, ◌&&◌, ◌||◌, ◌==◌, cond, IsTrue, List, [], ◌∷◌, ◌++◌, length, map, filter, filter_map, take, drop, min, Option, Some, None, refl, sym, ap, ap₂, subst, ◌∙◌, ◌⊎◌, inl, inr, ⊎_elim, arith, append-nil, append_assoc, length-append, length-drop, eq-eqb, ne_eqb}
-use Rattle.std.specs.Prelude.{MatchOption, option_to_list, sum}
+use Rattle.std.proofs.Common.{◌≡◌, ℕ, zero, suc, ◌+◌, ◌≤◌, ◌<◌, Bool, true, false, ◌&&◌, ◌||◌, ◌==◌, cond, List, [], ◌∷◌, ◌++◌, length, map, filter, filter_map, take, drop, Option, Some, None, refl, sym, ap, ap₂, subst, ◌∙◌, ◌⊎◌, inl, inr, ⊎_elim, arith, append-nil, append_assoc, length-append, length-drop, eq-eqb, ne_eqb}
+use Rattle.std.specs.Prelude.{MatchOption, sum}
 use Rattle.std.specs.List.{All, cons_option, list_all, list_any, slice_get}
 use Rattle.std.proofs.lemmas.Bool.{eqb-true, le-leb}
-use Rattle.std.proofs.lemmas.List.{map-append}
 use Rattle.std.proofs.lemmas.List.Elements.{All-nil, All-cons, All-append, All-head, All-tail, filter-append, filter_map-append}
 use Rattle.std.proofs.lemmas.List.Folds.{list_all-append, list_any-append}
 use Rattle.std.proofs.lemmas.Option.{slice_get_within}
@@ -42,18 +41,18 @@ use Rattle.host_hand.specs.declared.errand.Errand.{Errand}
 use Rattle.host_hand.specs.declared.work.Work.{Work}
 use Rattle.host_hand.specs.declared.work.Work.TheVariants as work
 use Rattle.host_hand.specs.Buffers.{IsFreed, pages_freed, release_of}
-use Rattle.host_hand.specs.Ends.{HasLandedClose, LandsFreed, slips_pushed, with_slips}
+use Rattle.host_hand.specs.Ends.{LandsFreed, slips_pushed, with_slips}
 use Rattle.host_hand.specs.Errands.{IsStepFor, errand_of}
 use Rattle.host_hand.specs.Frames.{is_closer, pages_of, taken_out}
 use Rattle.host_hand.specs.Visits.{begun_by, is_begun}
-use Rattle.host_hand.specs.Growth.{EachOwn, HasAdded, HasGrown}
+use Rattle.host_hand.specs.Growth.{HasAdded}
 use Rattle.host_hand.specs.Jobs.{HasTakenNext}
 use Rattle.host_hand.specs.Kept.{IsAtSession, is_judged_within, is_settled, own_landings, own_takings}
 use Rattle.host_session.specs.Moves.{moves_for, moves_owed}
 use Rattle.host_hand.specs.Records.{HasClosed, HasEnded, HasReleased, IsEnding, IsMoveTaken, IsPastTaking, IsStepTaken, IsTakenBy, steps_for}
 use Rattle.host_session.specs.Handed.{handed_by}
 use Rattle.host_hand.specs.Works.{HasCarried, IsFor, IsMoveFor, IsOutcome, IsPastBuffers, verdict_of}
-use Rattle.host_hand.proofs.Endings.{IsOf, all_map, entry_other, is_step_of, moves_added, released_longer, steps_added, steps_of_this}
+use Rattle.host_hand.proofs.Endings.{IsOf, all_map, entry_other, is_step_of, moves_added, steps_added, steps_of_this}
 use Rattle.host_hand.proofs.Entered.{handed_added, is_no_pass, own_takings_added, slip_now, taken_longer, taking_longer}
 use Rattle.host_hand.proofs.Framing.{closed_added, closed_longer}
 use Rattle.host_hand.proofs.Growing.{added_after, longer_length, own_grown, own_place}

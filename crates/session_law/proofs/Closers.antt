@@ -81,9 +81,6 @@ closing_from v r d c =
 -- ---- one close alone is accepted
 
 module _ (rs : List Request) (lent : ℕ → ℕ → Option ℕ) (range : Range) where
-  verdict_same : (m n i : ℕ) → i < m → i < n → get_or (verdicts_on rs lent range m) i Accepted ≡ get_or (verdicts_on rs lent range n) i Accepted
-  verdict_same m n i a b = verdict_at rs lent range m i Accepted a ∙ sym (verdict_at rs lent range n i Accepted b)
-
   pub verdict_there : (n i : ℕ) → i < n → slice_get (verdicts_on rs lent range n) i ≡ Some (verdict_after rs lent range (verdicts_on rs lent range i) i)
   verdict_there n i lt = get_some (verdicts_on rs lent range n) i Accepted (let e = length-verdicts_on rs lent range n in omega arith) ∙ ap Some (verdict_at rs lent range n i Accepted lt)
 

@@ -23,9 +23,6 @@ use Rattle.session_law.proofs.Lending.{eq_flip}
 use Rattle.session_law.proofs.Places.{any_at}
 use Rattle.session_law.proofs.Sums.{bit, count_one, counted_here}
 
-index_of : Landing → ℕ
-index_of l = l.index
-
 abbrev pub indexes : List Landing → List ℕ
 indexes ls = map (λ (l : Landing). l.index) ls
 
@@ -48,9 +45,6 @@ find_here p (y ∷ ys) (suc n) x at is few = step (p y) (count_one p y ys) (λ f
 module _ (ts : List Taking) (ls : List Landing) (landed : AreLanded ts ls) where
   n : ℕ
   n = length ts
-
-  has_landed : ℕ → Bool
-  has_landed i = list_any (is_landing_of i) ls
 
   landed_below : List ℕ
   landed_below = filter (λ i. list_any (is_landing_of i) ls) (below (length ts))

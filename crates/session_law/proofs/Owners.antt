@@ -154,9 +154,6 @@ module _ (client : ClientState) (hands : List SessionHand) (h : List MemEntry) (
       let f = close_found (requests s.log) (given_before s.log) s.range v i (sym (close_same v) ∙ e) in
       closing_says v (request_in t) t.verdict (sym (closes_same i v t at) ∙ f.1)
 
-  pub close_sent : (i v : ℕ) → close_of s.log s.range v ≡ Some i → i < length (sent s.log)
-  close_sent i v e = let f = close_found (requests s.log) (given_before s.log) s.range v i (sym (close_same v) ∙ e) in let m = requests_many in let l = f.0 in omega (arith, l, m)
-
   -- ---- who made an entry
 
   pub hand_is : (n : ℕ) (e : MemEntry) → slice_get h n ≡ Some e → (e.hand < client.plan.hands) ⊎ ((e.hand ≡ client.plan.hands) ⊎ (e.hand ≡ client.plan.hands + 1))
