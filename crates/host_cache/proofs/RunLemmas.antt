@@ -145,8 +145,6 @@ module _ {D : Type 0} {g : disk.Ghosts D} where
   absent_after b o m n absent p =
       ap (λ (l : Entries). line_at l b) (written_lines (with_room (held_of m)) (held_of n) p.calls o p.ruled) ∙ absent_room (held_of m) b absent
 
-  -- ---- a put
-
   -- ---- a block that was read from the disk
 
   pub read_same_content : (a m : Cache D g) → held_of m ≡ held_of a → (IsTrue (shape_of a).tells → g.state (disk_of m) ≡ g.state (disk_of a)) → HasSameContent a m

@@ -1,5 +1,6 @@
 -- What the next record is to the hand that takes it.
 use Rattle.std.proofs.Common.{◌≡◌, ℕ, ◌+◌, ◌-◌, ◌≤◌, Bool, true, false, not, ◌&&◌, ◌||◌, nat_le, cond, List, [], ◌∷◌, ◌++◌, length, take, drop, Option, Some, None, refl, sym, ap, ap₂, subst, ◌∙◌, arith, lit<, eq-eqb}
+use Rattle.std.proofs.Math.Bool.{or-true}
 use Rattle.std.specs.Prelude.{IsSome, MatchOption, is_none}
 use Rattle.std.specs.List.{list_any}
 use Rattle.std.proofs.lemmas.Bool.{leb-true}
@@ -113,10 +114,6 @@ events_under : (n : ℕ) (ms : List MemEvent) → events (under n ms) ≡ ms
 events_under n [] = refl
 events_under n (m ∷ ms) = ap (λ l. m ∷ l) (events_under n ms)
 
-or_true : (a : Bool) → (a || true) ≡ true
-or_true true = refl
-or_true false = refl
-
 any_left : (p : MemEvent → Bool) (s m num : ℕ) (h : List MemEntry) (ms : List MemEvent) → take m (drop s h) ≡ under num ms → list_any p ms ≡ true → list_any p (events h) ≡ true
 any_left p s m num h ms is found =
     ap (λ l. list_any p (events l)) (sym (take-append-drop s h) ∙ ap (λ l. take s h ++ l) (sym (take-append-drop m (drop s h))))
@@ -124,7 +121,7 @@ any_left p s m num h ms is found =
     ∙ (list_any-append p (events (take s h)) (events (take m (drop s h)) ++ events (drop m (drop s h)))
     ∙ (ap (λ b. list_any p (events (take s h)) || b) (list_any-append p (events (take m (drop s h))) (events (drop m (drop s h)))
     ∙ ap (λ b. b || list_any p (events (drop m (drop s h)))) (ap (λ l. list_any p (events l)) is ∙ (ap (list_any p) (events_under num ms) ∙ found)))
-    ∙ or_true (list_any p (events (take s h))))))
+    ∙ or-true (list_any p (events (take s h))))))
 
 pin_is : (hand i v : ℕ) → list_any (is_pin_by hand i v) (Pin i v hand ∷ []) ≡ true
 pin_is hand i v = ap (λ b. b || false) (ap₂ (λ a b. a && b) (ap₂ (λ a b. a && b) (eq-eqb hand hand refl) (eq-eqb i i refl)) (eq-eqb v v refl))

@@ -1,5 +1,6 @@
 -- What a visit leaves, put together.
 use Rattle.std.proofs.Common.{◌≡◌, ℕ, suc, ◌==◌, Option, Some, ◌+◌, Bool, true, false, not, ◌&&◌, ◌||◌, List, [], ◌∷◌, length, filter, cond, refl, sym, ap, subst, ◌∙◌, arith}
+use Rattle.std.proofs.Math.Bool.{and-false}
 use Rattle.std.specs.Prelude.{MatchOption}
 use Rattle.std.specs.List.{list_any, slice_get}
 use Rattle.std.proofs.lemmas.Bool.{eqb-true}
@@ -79,10 +80,6 @@ stepped_nothing session n seat out = record {
 claims_still : (pool : PoolSeat) → KeepsClaims pool pool
 claims_still pool = record { pool_is = refl; claims_are = refl; granted_is = refl }
 
-and_false : (a : Bool) → (a && false) ≡ false
-and_false true = refl
-and_false false = refl
-
 shut_closed : (p : Phase) → is_shut p ≡ true → p ≡ Closed
 shut_closed Running e = absurd (cc e)
 shut_closed Draining e = absurd (cc e)
@@ -143,7 +140,7 @@ module _ {S D : Type 0} (spec : SessionSpec) (n : ℕ) (old new : SessionHand) (
       (kept_waiting spec n before (seen_by new.intake) (seen_by new.memory) (seen_by new.memory) (seen_by seat) old.sender.pushed t k.by waits k.judged.seen k.entries (prefix_refl (seen_by new.memory), refl) found_kept))
     where
       no_closer : (t : Taking) → t.waits ≡ true → filter is_closer (t ∷ []) ≡ []
-      no_closer t w = ap (λ b. cond (is_accepted t.verdict && is_close (opcode (request_in t)) && not b) (t ∷ []) []) w ∙ ap (λ b. cond b (t ∷ []) []) (and_false (is_accepted t.verdict && is_close (opcode (request_in t))))
+      no_closer t w = ap (λ b. cond (is_accepted t.verdict && is_close (opcode (request_in t)) && not b) (t ∷ []) []) w ∙ ap (λ b. cond b (t ∷ []) []) (and-false (is_accepted t.verdict && is_close (opcode (request_in t))))
 
   -- ---- a visit that took a job
 

@@ -1,5 +1,6 @@
 -- The buffers that hold pages are released one by one.
 use Rattle.std.proofs.Common.{◌≡◌, ℕ, ◌≤◌, ◌<◌, ◌==◌, Bool, true, false, not, ◌||◌, cond, List, [], ◌∷◌, ◌++◌, length, filter, filter_map, Some, None, refl, sym, ap, subst, ◌∙◌, arith, append_assoc, append-nil}
+use Rattle.std.proofs.Math.Bool.{or-true, or-false}
 use Rattle.std.specs.List.{All, list_any, range_with_len, slice_get}
 use Rattle.std.specs.Option.{option_map_or, unwrap_or}
 use Rattle.std.proofs.lemmas.Bool.{eq-eqb}
@@ -45,14 +46,6 @@ module _ {A : Type 0} (p q : A → Bool) (less : (x : A) → q x ≡ true → p 
       at false true is f first ih le = absurd (cc (f refl))
       at false false is f first ih le = ih first
 
-or_true : (b : Bool) → (b || true) ≡ true
-or_true true = refl
-or_true false = refl
-
-or_false : (b : Bool) → (b || false) ≡ b
-or_false true = refl
-or_false false = refl
-
 filter_same : {A : Type 0} (p q : A → Bool) → ((x : A) → p x ≡ q x) → (xs : List A) → filter p xs ≡ filter q xs
 filter_same p q same [] = refl
 filter_same p q same (x ∷ xs) = ap (λ b. cond b (x ∷ filter p xs) (filter p xs)) (same x) ∙ ap (λ l. cond (q x) (x ∷ l) l) (filter_same p q same xs)
@@ -84,7 +77,7 @@ module _ (h : List MemEvent) (v : ℕ) where
 
   gone_now : holds_pages v (h ++ Release v ∷ []) ≡ false
   gone_now =
-      let e : is_released v (h ++ Release v ∷ []) ≡ true = released_now v ∙ (ap (λ b. is_released v h || (b || false)) (eq-eqb v v refl) ∙ or_true (is_released v h)) in
+      let e : is_released v (h ++ Release v ∷ []) ≡ true = released_now v ∙ (ap (λ b. is_released v h || (b || false)) (eq-eqb v v refl) ∙ or-true (is_released v h)) in
       ap (λ b. option_map_or (λ n. true) (cond b None (option_map_or (λ a. Some a.pages) (attachment_of v (h ++ Release v ∷ [])) None)) false) e
 
   -- how many buffers hold pages
@@ -97,7 +90,7 @@ module _ (h : List MemEvent) (v : ℕ) where
   left_still (Attach id pages from) = refl
   left_still (Fill id block cnt byte) = refl
   left_still (Show id block cnt) = refl
-  left_still (Pin index id by) = ap not (list_any-append (is_done_for index) h (Release v ∷ []) ∙ or_false (list_any (is_done_for index) h))
+  left_still (Pin index id by) = ap not (list_any-append (is_done_for index) h (Release v ∷ []) ∙ or-false (list_any (is_done_for index) h))
   left_still (Lift index k id block bytes) = refl
   left_still (Land index k id block bytes) = refl
   left_still (Done index id) = refl

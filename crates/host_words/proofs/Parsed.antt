@@ -1,6 +1,7 @@
 -- A parse of a command's words: it fails, but for want of memory, just where the definition gives them no meaning, and has
 -- the values that the definition gives.
-use Rattle.std.proofs.Common.{drop, Ok, Err, ◌≡◌, ◌∙◌, inl, inr, Bool, true, false, cond, ◌&&◌, ◌||◌, not, refl, sym, ap, subst, List, [], ◌∷◌, ◌++◌, map, fold, Option, Some, None, true≢false, append_assoc}
+use Rattle.std.proofs.Common.{drop, Ok, Err, ◌≡◌, ◌∙◌, inl, inr, Bool, true, false, cond, ◌&&◌, not, refl, sym, ap, subst, List, [], ◌∷◌, ◌++◌, map, fold, Option, Some, None, true≢false, append_assoc}
+use Rattle.std.proofs.Math.Bool.{or-true}
 use Rattle.std.specs.Prelude.{unwrap_or}
 use Rattle.std.specs.List.{list_all}
 use Rattle.std.specs.Str.{bytes_eq}
@@ -30,10 +31,6 @@ use Rattle.host_words.proofs.Walks.{Goes, walks}
 
 -- ---- no rule has a default, and none is required
 
-or_true : (b : Bool) → (b || true) ≡ true
-or_true true = refl
-or_true false = refl
-
 both_same : (b : Bool) (rows : List Row) → cond b rows rows ≡ rows
 both_same true rows = refl
 both_same false rows = refl
@@ -47,7 +44,7 @@ lacks_defaults rows [] e = (refl, refl)
 lacks_defaults rows (a ∷ rs) e =
     let parts = both (is_empty a.defaults) _ e in
     let rest = lacks_defaults rows rs parts.1 in
-    (rw (parts.0, or_true (has_row a.id rows), no_default rows a parts.0) rest.0, rw (no_default rows a parts.0) rest.1)
+    (rw (parts.0, or-true (has_row a.id rows), no_default rows a parts.0) rest.0, rw (no_default rows a parts.0) rest.1)
 
 no_defaults : (o : Options) → list_all (λ (a : Rule). is_empty a.defaults) (built_rules o) ≡ true
 no_defaults o = all_rules (λ a. is_empty a.defaults) built_valued built_plain built_words (λ n. refl) (λ n. refl) refl o.valued o.plain

@@ -5,6 +5,7 @@ use Rattle.std.specs.List.{cons_option, slice_get}
 use Rattle.std.proofs.lemmas.Bool.{ltb-true}
 use Rattle.std.proofs.lemmas.List.{take-append-drop, take-map, take_at}
 use Rattle.std.proofs.lemmas.List.Elements.{filter_map-append}
+use Rattle.host_block.proofs.Places.{from_take}
 use Rattle.host_model.specs.declared.event.Event.{Event}
 use Rattle.host_model.specs.declared.event.Event.TheVariants.{Attached, NotAttached, Filled, Shown, Sent, Received, Drained, Aborted}
 use Rattle.host_model.specs.declared.memory.MemEntry.{MemEntry}
@@ -13,7 +14,7 @@ use Rattle.host_model.proofs.ListTests.{both}
 use Rattle.host_record.specs.Response.{response_of}
 use Rattle.host_rings.specs.declared.slip.Slip.{Slip}
 use Rattle.host_session.specs.Acts.{Act, IsAct, IsEventAfter, log_of, slips_of}
-use Rattle.session_law.proofs.Places.{found_at, from_take}
+use Rattle.session_law.proofs.Places.{found_at}
 use Rattle.session_law.proofs.Sending.{sent_until}
 
 none_is : {B : Type 0} (o : Option B) → o ≡ None → is_some o ≡ false
