@@ -73,7 +73,7 @@ none_of f g q (x ∷ xs) never = at (q x) refl (none_of f g q xs (λ k y at is. 
     at true is rest = ap (λ o. cons_option o (filter_map f (map g (filter q xs)))) (never 0 x refl is) ∙ rest
     at false is rest = rest
 
-events_under : (n : ℕ) (ms : List MemEvent) → events (under n ms) ≡ ms
+pub events_under : (n : ℕ) (ms : List MemEvent) → events (under n ms) ≡ ms
 events_under n [] = refl
 events_under n (m ∷ ms) = ap (λ l. m ∷ l) (events_under n ms)
 

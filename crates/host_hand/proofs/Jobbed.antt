@@ -18,7 +18,7 @@ use Rattle.host_intake.specs.Entries.{Taking, place_of, request_in, takings}
 use Rattle.host_intake.specs.Ledgers.{is_shut}
 use Rattle.host_intake.specs.Rights.{HasRight}
 use Rattle.host_intake.specs.State.{IntakeState, MemorySeat}
-use Rattle.host_intake.specs.Takings.{IsJudged, judged_on, made, made_for, made_under, under}
+use Rattle.host_intake.specs.Takings.{IsJudged, judged_on, made, under}
 use Rattle.host_intake.specs.Told.{phase_in, turn_of}
 use Rattle.host_intake.proofs.Accepting.{all_passed}
 use Rattle.host_intake.proofs.Ledgering.{and_left, and_right}
@@ -57,6 +57,8 @@ use Rattle.host_hand.specs.Jobs.{HasTakenNext, IsNext}
 use Rattle.host_hand.specs.Visits.{CannotTake, HasNothingToPass}
 use Rattle.host_hand.specs.WorkKinds.{next_for, work_for}
 use Rattle.host_hand.specs.Works.{IsWork, pages_with, verdict_of}
+use Rattle.host_hand.proofs.Finished.{events_under}
+use Rattle.host_hand.proofs.LeftBehind.{made_as}
 
 -- ---- phases
 
@@ -110,10 +112,6 @@ some_waits v c true is close e = absurd (let f : true ≡ false = e ∙ (ap (λ 
 
 -- ---- what taking it left
 
-events_under : (n : ℕ) (ms : List MemEvent) → events (under n ms) ≡ ms
-events_under n [] = refl
-events_under n (m ∷ ms) = ap (λ l. m ∷ l) (events_under n ms)
-
 any_left : (p : MemEvent → Bool) (s m num : ℕ) (h : List MemEntry) (ms : List MemEvent) → take m (drop s h) ≡ under num ms → list_any p ms ≡ true → list_any p (events h) ≡ true
 any_left p s m num h ms is found =
     ap (λ l. list_any p (events l)) (sym (take-append-drop s h) ∙ ap (λ l. take s h ++ l) (sym (take-append-drop m (drop s h))))
@@ -125,9 +123,6 @@ any_left p s m num h ms is found =
 
 pin_is : (hand i v : ℕ) → list_any (is_pin_by hand i v) (Pin i v hand ∷ []) ≡ true
 pin_is hand i v = ap (λ b. b || false) (ap₂ (λ a b. a && b) (ap₂ (λ a b. a && b) (eq-eqb hand hand refl) (eq-eqb i i refl)) (eq-eqb v v refl))
-
-made_as : (t : Taking) (o : Option Opcode) → opcode (request_in t) ≡ o → t.verdict ≡ Accepted → made t ≡ made_for o (place_of t) (request_in t).vmoid t.hand t.waits
-made_as t o is v = ap₂ (λ a b. made_under a (made_for b (place_of t) (request_in t).vmoid t.hand t.waits)) v is
 
 -- ---- the job
 

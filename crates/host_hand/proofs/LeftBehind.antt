@@ -36,8 +36,8 @@ judged_room part number h t j = omega (arith, ap length j.left, left_length numb
 none_made : (t : Taking) (status : Status) → t.verdict ≡ Refused status → made t ≡ []
 none_made t status is = ap (λ v. made_under v (made_for (opcode (request_in t)) (place_of t) (request_in t).vmoid t.hand t.waits)) is
 
-made_none : (t : Taking) (o : Option Opcode) → opcode (request_in t) ≡ o → t.verdict ≡ Accepted → made t ≡ made_for o (place_of t) (request_in t).vmoid t.hand t.waits
-made_none t o is v = ap₂ (λ a b. made_under a (made_for b (place_of t) (request_in t).vmoid t.hand t.waits)) v is
+pub made_as : (t : Taking) (o : Option Opcode) → opcode (request_in t) ≡ o → t.verdict ≡ Accepted → made t ≡ made_for o (place_of t) (request_in t).vmoid t.hand t.waits
+made_as t o is v = ap₂ (λ a b. made_under a (made_for b (place_of t) (request_in t).vmoid t.hand t.waits)) v is
 
 pub taking_below : (spec : SessionSpec) (number : ℕ) (h h' : List MemEntry) (t : Taking) (w : Work) (end : RecordEnd) → IsPrefix h h' → IsJudged spec.part number h t → t.verdict ≡ verdict_of w → IsFor (opcode (request_in t)) w → IsPastBuffers w end h'
     → (k : ℕ) → k < length (made t) → t.seen + k < end.memory_front
@@ -45,5 +45,5 @@ taking_below spec number h h' t (work.Refuse status) end b j v is past k less = 
 taking_below spec number h h' t (work.Close pages) end b j v is past k less = let room = judged_room spec.part number h t j in let longer = longer_length h h' b in omega (arith, past)
 taking_below spec number h h' t work.Read end b j v is past k less = let room = judged_room spec.part number h t j in let longer = longer_length h h' b in omega (arith, past)
 taking_below spec number h h' t work.Write end b j v is past k less = let room = judged_room spec.part number h t j in let longer = longer_length h h' b in omega (arith, past)
-taking_below spec number h h' t work.Trim end b j v is past k less = absurd (let none = ap length (made_none t (Some opcode.Trim) is v) in omega arith)
-taking_below spec number h h' t work.Flush end b j v is past k less = absurd (let none = ap length (made_none t (Some opcode.Flush) is v) in omega arith)
+taking_below spec number h h' t work.Trim end b j v is past k less = absurd (let none = ap length (made_as t (Some opcode.Trim) is v) in omega arith)
+taking_below spec number h h' t work.Flush end b j v is past k less = absurd (let none = ap length (made_as t (Some opcode.Flush) is v) in omega arith)

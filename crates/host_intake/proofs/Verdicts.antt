@@ -33,7 +33,7 @@ use Rattle.host_intake.specs.Entries.{Taking, place_of, request_in, requests_of}
 use Rattle.host_intake.specs.Laws.{Lends}
 use Rattle.host_intake.specs.Takings.{AreTaken, judged_on, left_by, made, made_for, made_under, under}
 use Rattle.host_intake.proofs.Attached.{standing_is_lent}
-use Rattle.host_intake.proofs.Judging.{hand_of}
+use Rattle.host_intake.proofs.Judging.{hand_of, single}
 use Rattle.host_intake.proofs.Leaving.{position_none}
 use Rattle.host_intake.proofs.Readiness.{all_at, first_found}
 
@@ -125,10 +125,6 @@ IsCloser vd o i id v what = (j : ℕ) → closer_by v what ≡ Some j → ((is_a
 some_then : (b : Bool) (i j : ℕ) → then_some b i ≡ Some j → (b ≡ true) × (i ≡ j)
 some_then true i j e = (refl, ap (λ (o : Option ℕ). unwrap_or o i) e)
 some_then false i j e = absurd (cc)
-
-single : (x : MemEntry) (m : ℕ) (e : MemEntry) → slice_get (x ∷ []) m ≡ Some e → x ≡ e
-single x zero e at = ap (λ (o : Option MemEntry). unwrap_or o x) at
-single x (suc m) e at = absurd (cc)
 
 left_closes : (vd : Verdict) (o : Option Opcode) (i id hand : ℕ) (waits : Bool) (number v m : ℕ) (e : MemEntry) → slice_get (under number (made_under vd (made_for o i id hand waits))) m ≡ Some e → IsCloser vd o i id v e.what
 left_closes (Refused s) o i id hand waits number v zero e at = absurd (cc)

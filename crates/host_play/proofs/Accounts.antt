@@ -134,7 +134,7 @@ as_before old new es log_is s released =
 pub as_before_trans : (a b c : ClientState) → IsAsBefore a b → IsAsBefore b c → IsAsBefore a c
 as_before_trans a b c f s = record { attached = s.attached ∙ f.attached; wanted = s.wanted ∙ f.wanted; short = s.short ∙ f.short; released = s.released ∙ f.released }
 
-or_left : (b : Bool) → (b || false) ≡ true → b ≡ true
+pub or_left : (b : Bool) → (b || false) ≡ true → b ≡ true
 or_left true h = refl
 or_left false h = cc
 
