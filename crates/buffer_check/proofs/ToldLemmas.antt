@@ -1,5 +1,5 @@
 -- What a log tells, event by event.
-use Rattle.std.proofs.Common.{◌≡◌, ◌↔◌, ℕ, suc, ◌+◌, Bool, true, false, ◌&&◌, cond, IsTrue, List, [], ◌∷◌, ◌++◌, length, filter, Option, Some, None, is_some, refl, sym, ap, ◌∙◌, length-append}
+use Rattle.std.proofs.Common.{◌≡◌, ℕ, suc, ◌+◌, true, false, cond, List, [], ◌∷◌, ◌++◌, length, filter, Option, Some, None, is_some, refl, ap, ◌∙◌, length-append}
 use Rattle.std.proofs.lemmas.List.Elements.{filter_map-append}
 use Rattle.std.specs.List.{cons_option}
 use Rattle.host_model.specs.declared.event.Event.{Event}
@@ -8,7 +8,6 @@ use Rattle.host_model.specs.declared.memory.MemEvent.{MemEvent}
 use Rattle.host_model.specs.ClientEntries.{entry_after, told}
 use Rattle.host_model.specs.Lists.{map_after}
 use Rattle.host_model.specs.Log.{sent, sent_bytes}
-use Rattle.host_model.proofs.ListTests.{and-from, both}
 use Rattle.buffer_check.specs.Told.{entry_at, has_entry, sent_by, told_from}
 
 one_sent : (e : Event) → length (sent (e ∷ [])) ≡ sent_by e
@@ -74,47 +73,3 @@ length_from n (e ∷ log) =
 
 pub length_told : (log : List Event) → length (told log) ≡ length (filter has_entry log)
 length_told log = ap length (told_is log) ∙ length_from 0 log
-
--- ---- entries beside events
-
-skipped : (o : Option MemEvent) (xs : List MemEvent) → is_some o ≡ false → cons_option o xs ≡ xs
-skipped None xs e = refl
-skipped (Some x) xs e = absurd (cc e)
-
-pub skip_is : (n : ℕ) (e : Event) (log : List Event) (entries : List MemEvent) (b : Bool) → has_entry e ≡ false → (IsTrue b ↔ (entries ≡ told_from (n + sent_by e) log)) → IsTrue b ↔ (entries ≡ told_from n (e ∷ log))
-skip_is n e log entries b h t =
-    let same : told_from n (e ∷ log) ≡ told_from (n + sent_by e) log = skipped (entry_at n e) (told_from (n + sent_by e) log) (has_is n e ∙ h) in
-    (λ p. t.0 p ∙ sym same, λ p. t.1 (p ∙ same))
-
-empty_isnt : (o : Option MemEvent) (xs : List MemEvent) → is_some o ≡ true → [] ≡ cons_option o xs → ⊥
-empty_isnt None xs e p = absurd (cc e)
-empty_isnt (Some x) xs e p = absurd (cc p)
-
-pub none_is : (n : ℕ) (e : Event) (log : List Event) (entries : List MemEvent) → has_entry e ≡ true → entries ≡ [] → IsTrue false ↔ (entries ≡ told_from n (e ∷ log))
-none_is n e log entries h none =
-    (λ p. absurd (cc p), λ p. absurd (empty_isnt (entry_at n e) (told_from (n + sent_by e) log) (has_is n e ∙ h) (sym none ∙ p)))
-
-head_of : MemEvent → List MemEvent → MemEvent
-head_of d [] = d
-head_of d (x ∷ xs) = x
-
-rest_of : List MemEvent → List MemEvent
-rest_of [] = []
-rest_of (x ∷ xs) = xs
-
-value_of : MemEvent → Option MemEvent → MemEvent
-value_of d None = d
-value_of d (Some x) = x
-
-joined : (o : Option MemEvent) (x : MemEvent) (xs ys : List MemEvent) (a b : Bool) → is_some o ≡ true → (IsTrue a ↔ (o ≡ Some x)) → (IsTrue b ↔ (xs ≡ ys)) → IsTrue (a && b) ↔ (x ∷ xs ≡ cons_option o ys)
-unfolding head_of rest_of value_of
-joined None x xs ys a b e ha hb = absurd (cc e)
-joined (Some z) x xs ys a b e ha hb = (
-  λ t. let u : IsTrue a × IsTrue b = both a b t in
-      ap (λ y. y ∷ xs) (sym (ap (value_of x) (ha.0 u.0))) ∙ ap (λ zs. z ∷ zs) (hb.0 u.1),
-  λ p. and-from a b (ha.1 (ap Some (sym (ap (head_of x) p)))) (hb.1 (ap rest_of p)),
-)
-
-pub both_are : (n : ℕ) (e : Event) (log : List Event) (x : MemEvent) (xs : List MemEvent) (a b : Bool) → has_entry e ≡ true → (IsTrue a ↔ (entry_at n e ≡ Some x)) → (IsTrue b ↔ (xs ≡ told_from (n + sent_by e) log))
-    → IsTrue (a && b) ↔ (x ∷ xs ≡ told_from n (e ∷ log))
-both_are n e log x xs a b h ha hb = joined (entry_at n e) x xs (told_from (n + sent_by e) log) a b (has_is n e ∙ h) ha hb

@@ -2,7 +2,7 @@
 use Rattle.std.proofs.Common.{◌≡◌, ℕ, zero, suc, ◌+◌, ◌<◌, ◌≤◌, Bool, true, false, ◌||◌, cond, List, [], ◌∷◌, Some, refl, ap, ◌∙◌, arith}
 use Rattle.std.specs.List.{list_any, slice_get}
 use Rattle.host_block.specs.Changes.{Change, barrier, changed, changes_block, is_barrier, place_from, put_by}
-use Rattle.crash_law.proofs.Places.{any_at}
+use Rattle.host_block.proofs.Places.{any_at}
 
 -- ---- flushes
 

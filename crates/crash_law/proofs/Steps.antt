@@ -5,6 +5,7 @@ use Rattle.host_block.specs.declared.op.Op.{Op}
 use Rattle.host_block.specs.declared.op.Op.TheVariants as op
 use Rattle.host_block.specs.declared.range.Range.{Range}
 use Rattle.host_block.specs.Changes.{changes_block, is_barrier, is_flush, puts_bytes}
+use Rattle.host_block.proofs.Places.{from_filter, in_map, range_at}
 use Rattle.host_record.specs.declared.opcode.Opcode.{Opcode}
 use Rattle.host_record.specs.declared.opcode.Opcode.TheVariants.{Read, Write, Flush, Trim, Close}
 use Rattle.host_record.specs.declared.request.Request.{Request}
@@ -19,7 +20,6 @@ use Rattle.host_model.specs.Session.{Session}
 use Rattle.host_model.proofs.ListTests.{both}
 use Rattle.crash_law.specs.Survival.{IsDone, changes_blocks}
 use Rattle.crash_law.proofs.Accepted.{accepted_so}
-use Rattle.crash_law.proofs.Places.{from_filter, in_map, range_at}
 
 -- ---- all steps
 

@@ -8,6 +8,7 @@ use Rattle.host_block.specs.declared.range.Range.{Range}
 use Rattle.host_block.specs.Changes.{Change, changes_block, puts_bytes, put_by}
 use Rattle.host_block.specs.Crash.{IsCrashImage}
 use Rattle.host_block.specs.Disk.{block_at}
+use Rattle.host_block.proofs.Places.{from_filter, from_take, in_map, in_take}
 use Rattle.host_record.specs.declared.opcode.Opcode.{Opcode}
 use Rattle.host_record.specs.declared.opcode.Opcode.TheVariants.{Flush}
 use Rattle.host_model.specs.declared.step.Step.{Step}
@@ -25,7 +26,7 @@ use Rattle.host_report.specs.Lawful.{IsLawful, session_of}
 use Rattle.host_report.proofs.Ranges.{ranges_lie_in_image}
 use Rattle.crash_law.specs.Survival.{FlushedWritesSurvive, HasSurvived, IsDone, changes_blocks}
 use Rattle.crash_law.proofs.Barriers.{barrier_past, last_change}
-use Rattle.crash_law.proofs.Places.{filter_order, from_filter, from_map, from_take, in_map, in_places, in_take, one_of}
+use Rattle.crash_law.proofs.Places.{filter_order, from_map, in_places, one_of}
 use Rattle.crash_law.proofs.Steps.{flushing, writing}
 
 lies_in : (range : Range) (o : Op) (block : ℕ) → puts_bytes o ≡ true → StaysIn range o block → block < range.first + range.count
@@ -64,7 +65,7 @@ module _ (image : List (List ℕ)) (report : Report) (left : List (List ℕ)) (l
       let after = version.after_barrier in let first = order.before in
       let last = last_change (length (block_at image b)) (take version.place (changes_of report.steps.items)) b order.first (block_at image b) (change_of x.step)
       (in_take (changes_of report.steps.items) version.place order.first (change_of x.step) (omega (arith, past, after, first)) (in_map change_of report.steps.items order.first x.step order.early)) x.writes in
-      let z = from_map change_of report.steps.items last.later last.change (from_take (changes_of report.steps.items) version.place last.later last.change last.stands) in
+      let z = from_map change_of report.steps.items last.later last.change (from_take (changes_of report.steps.items) version.place last.later last.change last.stands).0 in
       record {
         place = order.first;
         wrote = record { step = x.step; stands = order.early; names = (eqb-true x.step.session e.number named, eqb-true x.step.index w x.index); writes = x.writes };

@@ -1,5 +1,5 @@
 //! Two hands at one device, each in a thread of its own.
-ghost use Rattle.std.specs.Prelude.{◌≡◌, ◌≤◌, [], All, IfOk, IfSome, vec_len};
+ghost use Rattle.std.specs.Prelude.{◌≡◌, [], All, IfOk, vec_len};
 ghost use Rattle.host_turn.specs.Seats.{AreNewSeats, IsSeatOutside, seat_book, book_id, opening_of};
 ghost use Rattle.host_device.specs.Seen.{fixed_of, shape_of, steps_of};
 

@@ -1,6 +1,6 @@
 //! A type that holds a seat.
 ghost use Rattle.std.specs.Prelude.{◌≡◌, ◌<◌};
-ghost use Rattle.host_frames.specs.Seats.{seat_pool, pages_pool, pool_id};
+ghost use Rattle.host_frames.specs.Seats.{seat_pool, pool_id};
 
 use crate::buffer::Buffer;
 use host_frames::{NoFrames, Pages, Pool, PoolSeat};

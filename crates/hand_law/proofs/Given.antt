@@ -6,11 +6,11 @@ use Rattle.std.specs.Option.{option_map_or}
 use Rattle.std.proofs.lemmas.Bool.{eqb-true}
 use Rattle.std.proofs.lemmas.List.Elements.{filter_map-append}
 use Rattle.std.proofs.lemmas.List.Sums.{sum_by-cons}
+use Rattle.host_block.proofs.Places.{range_at, within}
 use Rattle.host_model.specs.declared.event.Event.{Event}
 use Rattle.host_model.specs.declared.event.Event.TheVariants.{Attached, NotAttached, Filled, Shown, Sent, Received, Drained, Aborted}
 use Rattle.host_model.specs.Log.{given, given_id, pages_given, pages_of}
-use Rattle.session_law.proofs.Finding.{range_at}
-use Rattle.session_law.proofs.Places.{has_found, in_front, within}
+use Rattle.session_law.proofs.Places.{has_found, in_front}
 use Rattle.hand_law.specs.Pages.{attached_by}
 
 -- ---- lists

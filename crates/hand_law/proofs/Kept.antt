@@ -5,6 +5,7 @@ use Rattle.std.specs.List.{list_all, slice_get}
 use Rattle.std.specs.Option.{option_map_or}
 use Rattle.std.proofs.lemmas.Bool.{eqb-true, ltb-false, ltb-true}
 use Rattle.std.proofs.lemmas.List.{take-append-le}
+use Rattle.host_block.proofs.Places.{from_filter, from_take, within}
 use Rattle.host_model.specs.declared.memory.MemEntry.{MemEntry}
 use Rattle.host_model.specs.declared.memory.MemEvent.TheVariants.{Release}
 use Rattle.host_model.specs.declared.step.Step.{Step}
@@ -31,9 +32,8 @@ use Rattle.session_law.specs.Hands.{IsEndPast, IsMoveDone, IsStepDone, steps_in}
 use Rattle.session_law.specs.Lawful.{AreKept}
 use Rattle.session_law.proofs.Closers.{IsClosing}
 use Rattle.session_law.proofs.Entries.{none_made}
-use Rattle.session_law.proofs.Finding.{from_filter}
 use Rattle.session_law.proofs.Owners.{close_entry}
-use Rattle.session_law.proofs.Places.{found_at, from_take, in_filter, only_at, some_at, within}
+use Rattle.session_law.proofs.Places.{found_at, in_filter, only_at, some_at}
 use Rattle.host_session.specs.Endings.{is_turn}
 use Rattle.session_law.proofs.Draining.{drains_come_last}
 use Rattle.hand_law.specs.Hands.{HandsKeepSessions, HasKept, HaveKept}

@@ -5,6 +5,7 @@ use Rattle.std.specs.List.{slice_get}
 use Rattle.std.specs.Option.{option_map, option_map_or}
 use Rattle.std.proofs.lemmas.Bool.{ltb-false, ltb-true}
 use Rattle.std.proofs.lemmas.Option.{get_or_from_slice_get}
+use Rattle.host_block.proofs.Places.{from_filter, within}
 use Rattle.host_model.specs.declared.memory.MemEntry.{MemEntry}
 use Rattle.host_model.specs.declared.memory.MemEvent.{MemEvent}
 use Rattle.host_model.specs.declared.step.Step.{Step}
@@ -27,10 +28,9 @@ use Rattle.host_hand.specs.Frames.{closed_by, frames_out, is_closer, pages_of, r
 use Rattle.host_hand.proofs.Framing.{closed_longer, released_still}
 use Rattle.session_law.specs.Gathered.{IsGathered}
 use Rattle.session_law.proofs.Buffers.{given_times, released_times}
-use Rattle.session_law.proofs.Finding.{from_filter}
 use Rattle.session_law.proofs.Gathered.{taken_whole}
 use Rattle.session_law.proofs.Lending.{attached_times}
-use Rattle.session_law.proofs.Places.{found_at, has_found, in_filter, within}
+use Rattle.session_law.proofs.Places.{found_at, has_found, in_filter}
 use Rattle.session_law.proofs.Released.{none_there}
 use Rattle.session_law.proofs.Seen.{given_pages}
 use Rattle.session_law.proofs.Sums.{sum_below, sum_both, sum_same}

@@ -9,6 +9,7 @@ use Rattle.std.proofs.lemmas.List.{map-append, take-append-drop}
 use Rattle.std.proofs.lemmas.List.Elements.{filter_map-append}
 use Rattle.std.proofs.lemmas.List.Sums.{sum_by-cons}
 use Rattle.host_block.specs.declared.range.Range.{Range}
+use Rattle.host_block.proofs.Places.{in_take}
 use Rattle.host_record.specs.declared.opcode.Opcode.{Opcode}
 use Rattle.host_record.specs.declared.opcode.Opcode.TheVariants.{Read, Write, Flush, Trim, Close}
 use Rattle.host_record.specs.Command.{is_close, opcode}
@@ -27,7 +28,7 @@ use Rattle.host_turn.specs.History.{entries_of}
 use Rattle.host_intake.specs.Entries.{Taking, place_of, request_in}
 use Rattle.host_intake.specs.Takings.{AreTaken, left_by, made_for, made_under, under}
 use Rattle.host_hand.specs.Frames.{is_closer, pages_by, pages_in, pages_of, released_by}
-use Rattle.session_law.proofs.Places.{any_here, from_drop, in_take, take_one, with_before_at}
+use Rattle.session_law.proofs.Places.{any_here, from_drop, take_one, with_before_at}
 use Rattle.session_law.proofs.Released.{event_at, events_take, left_at}
 use Rattle.hand_law.proofs.Given.{none_found, there_at}
 use Rattle.hand_law.proofs.Totals.{sum_alike, sum_flat, sum_option}

@@ -26,12 +26,6 @@ module _ {E : Type 0} (maker : E → ℕ) (n : ℕ) (seen whole : List E) (later
       tail_is : (y : E) (ys zs : List E) → y ∷ ys ≡ y ∷ zs → ys ≡ zs
       tail_is y ys zs f = cc
 
-  pub rest : List E
-  rest = later.0.0
-
-  pub whole_is : seen ++ later.0.0 ≡ whole
-  whole_is = later.0.1
-
   pub none_after : entries_of maker n later.0.0 ≡ []
   none_after = no_more (entries_of maker n seen) (entries_of maker n later.0.0)
       (sym (filter-append (λ e. maker e == n) seen later.0.0) ∙ (ap (entries_of maker n) later.0.1 ∙ later.1))

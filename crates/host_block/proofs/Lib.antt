@@ -3,3 +3,4 @@ pub mod DiskLemmas
 mod Examples
 pub mod KeptLemmas
 pub mod Prefixes
+pub mod Places

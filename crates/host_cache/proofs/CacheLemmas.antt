@@ -20,9 +20,6 @@ module _ {D : Type 0} {g : disk.Ghosts D} where
   pub told_before : (calls : List DiskCall) (old new : D) → Made g calls old new → IsTrue (g.shape new).tells → IsTrue (g.shape old).tells
   told_before calls old new made told = subst (λ (sh : Shape). IsTrue sh.tells) made.shape told
 
-  pub told_after : (calls : List DiskCall) (old new : D) → Made g calls old new → IsTrue (g.shape old).tells → IsTrue (g.shape new).tells
-  told_after calls old new made told = subst (λ (sh : Shape). IsTrue sh.tells) (sym made.shape) told
-
   module _ (cache : Cache D g) (new : D) (v : Victim) (bytes : List ℕ) (o : Outcome) (is : cache.victim ≡ Some v) (same : bytes ≡ v.bytes) (made : Made g (write v.block bytes o ∷ []) cache.disk new) where
     victim_lead : IsTrue (g.shape cache.disk).tells → LeadAll (victim_writes cache.victim o) (g.state cache.disk) (g.state new)
     victim_lead told =

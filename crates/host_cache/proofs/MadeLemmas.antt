@@ -1,6 +1,6 @@
 -- Runs of disk calls, one after the other.
 use Rattle.std.proofs.Common.{◌≡◌, ◌≢◌, inl, inr, ℕ, IsTrue, List, [], ◌∷◌, ◌++◌, refl, sym, ◌∙◌, ap, subst, arith}
-use Rattle.host_block.specs.Disk.{DiskState, Outcome, done, DiskCall, read, write, sync, Leads, LeadAll}
+use Rattle.host_block.specs.Disk.{DiskState, Outcome, done, DiskCall, read, write, sync, LeadAll}
 use Rattle.host_io.specs.Causes.{next_count}
 use Rattle.host_io.specs.Disks.{Shape, read_counted, write_counted, sync_counted}
 use Rattle.host_io.specs.declared.counts.Counts.{Counts}
@@ -16,9 +16,6 @@ use Rattle.host_cache.specs.declared.error.CacheError.TheVariants.{Disk, Oom}
 pub LeadAll-append : (xs ys : List DiskCall) (s t u : DiskState) → LeadAll xs s t → LeadAll ys t u → LeadAll (xs ++ ys) s u
 LeadAll-append [] ys s t u first second = subst (λ (v : DiskState). LeadAll ys v u) first second
 LeadAll-append (x ∷ xs) ys s t u first second = (first.0, first.1, LeadAll-append xs ys first.0 t u first.2 second)
-
-pub LeadAll-one : (call : DiskCall) (s t : DiskState) → Leads call s t → LeadAll (call ∷ []) s t
-LeadAll-one call s t leads = (t, leads, refl)
 
 counted-append : (xs ys : List DiskCall) (c : Counts) → counted (xs ++ ys) c ≡ counted ys (counted xs c)
 counted-append [] ys c = refl
@@ -89,7 +86,3 @@ module _ {D : Type 0} {g : disk.Ghosts D} where
     ruled = inl (record { ran = p.ruled; ended = error_not_done e });
     made = p.made;
   }
-
-  -- a rule that is the same where the second cache begins
-  pub runs_as : (one other : Rule) (o : Outcome) (a b : Cache D g) → ((calls : List DiskCall) → one (held_of a) calls o (held_of b) → other (held_of a) calls o (held_of b)) → Runs one a o b → Runs other a o b
-  runs_as one other o a b same p = record { calls = p.calls; ruled = same p.calls p.ruled; made = p.made }

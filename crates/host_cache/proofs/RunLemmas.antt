@@ -1,20 +1,17 @@
 -- Calls of a cache, one after the other.
-use Rattle.std.proofs.Common.{◌≡◌, ◌≢◌, inl, inr, ℕ, ◌<◌, ◌≤◌, Bool, true, false, IsTrue, Option, Some, None, Result, Ok, Err, List, [], refl, sym, ◌∙◌, ap, subst, arith}
-use Rattle.std.specs.Prelude.{is_some, MatchOption, OnOk, OnErr, if◌then◌else◌, ◌==◌}
-use Rattle.std.proofs.lemmas.Bool.{cases_eq}
+use Rattle.std.proofs.Common.{◌≡◌, ◌≢◌, ℕ, ◌<◌, ◌≤◌, Bool, true, false, IsTrue, Option, Some, None, Result, Ok, Err, List, [], refl, sym, ◌∙◌, ap, subst, arith}
+use Rattle.std.specs.Prelude.{is_some, MatchOption, OnOk}
 use Rattle.host_block.specs.Disk.{read_of, Outcome, done, failed, refused, DiskCall}
-use Rattle.host_block.proofs.DiskLemmas.{put_here, put_elsewhere}
 use Rattle.host_io.specs.Causes.{next_count}
 use Rattle.host_io.specs.Disks.{Shape}
 use Rattle.host_io.specs.declared.disk.Disk as disk
 use Rattle.host_cache.specs.Held.{Held, line_at, over_line, over_victim, cached}
-use Rattle.host_cache.specs.Calls.{Rule, WritesVictim, after_victim, with_room, MakesRoom, PutsInFront, Finds, Loads, GivesFound, Gives, RoomUnless, MakesRoomFor}
+use Rattle.host_cache.specs.Calls.{Rule, WritesVictim, after_victim, with_room, MakesRoom, Finds, Loads, GivesFound, Gives, RoomUnless, MakesRoomFor}
 use Rattle.host_cache.specs.Made.{Made}
-use Rattle.host_cache.specs.Seen.{disk_of, shape_of, held_of, content_of, HasSameContent, HasWritten, HasFaulted, Runs}
+use Rattle.host_cache.specs.Seen.{disk_of, shape_of, held_of, content_of, HasSameContent, HasFaulted, Runs}
 use Rattle.host_cache.specs.declared.cache.Cache.{Cache}
 use Rattle.host_cache.specs.declared.error.CacheError.{CacheError}
 use Rattle.host_cache.specs.declared.line.Line.{Line}
-use Rattle.host_cache.specs.declared.line.Victim.{Victim}
 use Rattle.host_cache.proofs.EntryLemmas.{Entries}
 use Rattle.host_cache.proofs.MadeLemmas.{made_none}
 use Rattle.host_cache.proofs.StepLemmas.{absent_room}
@@ -39,10 +36,6 @@ pub on_ok_map : {P Q : Type 0} (r : Result Unit CacheError) → (P → Q) → On
 on_ok_map (Ok x) f p = f p
 on_ok_map (Err e) f p = tt
 
-pub on_err_map : {P Q : Type 0} (r : Result Unit CacheError) → (P → Q) → OnErr r P → OnErr r Q
-on_err_map (Ok x) f p = tt
-on_err_map (Err e) f p = f p
-
 next_rises : (a b : ℕ) → a ≤ b → next_count a ≤ next_count b
 next_rises a b le = omega arith
 
@@ -55,11 +48,6 @@ module _ {D : Type 0} {g : disk.Ghosts D} where
 
   pub same_as : (a m b : Cache D g) → disk_of m ≡ disk_of a → HasSameContent a m → HasSameContent m b → HasSameContent a b
   same_as a m b same p q = same_then a m b (ap (λ (d : D). g.shape d) same) p q
-
-  pub written_then : (x : ℕ) (bytes : List ℕ) (a m b : Cache D g) → shape_of m ≡ shape_of a → HasSameContent a m → HasWritten x bytes m b → HasWritten x bytes a b
-  written_then x bytes a m b shape p q told k below =
-      q (subst (λ (sh : Shape). IsTrue sh.tells) (sym shape) told) k (subst (λ (sh : Shape). k < sh.blocks) (sym shape) below)
-      ∙ ap (λ (old : List ℕ). if x == k then bytes else old) (p told k below)
 
   pub faulted_then : (rule : Rule) (o : Outcome) (a m b : Cache D g) → Runs rule a o m → HasFaulted m b → HasFaulted a b
   faulted_then rule o a m b runs faulted =
@@ -153,37 +141,11 @@ module _ {D : Type 0} {g : disk.Ghosts D} where
         made = q.made;
       }
 
-  -- a block that isn't in the list has the bytes of the disk
-  pub absent_content : (b : ℕ) (m : Cache D g) → line_at (held_of m).lines b ≡ None → (held_of m).victim ≡ None → content_of m b ≡ read_of (g.state (disk_of m)) b
-  absent_content b m absent empty =
-      ap (λ (o : Option Line). over_line o (over_victim (held_of m).victim b (read_of (g.state (disk_of m)) b))) absent
-      ∙ ap (λ (v : Option Victim). over_victim v b (read_of (g.state (disk_of m)) b)) empty
-
   pub absent_after : (b : ℕ) (o : Outcome) (m n : Cache D g) → line_at (held_of m).lines b ≡ None → Runs MakesRoom m o n → line_at (held_of n).lines b ≡ None
   absent_after b o m n absent p =
       ap (λ (l : Entries). line_at l b) (written_lines (with_room (held_of m)) (held_of n) p.calls o p.ruled) ∙ absent_room (held_of m) b absent
-
-  -- ---- a put
-
-  pub runs_refused : (b : ℕ) (line : Line) (m : Cache D g) → Runs (PutsInFront b line) m refused m
-  runs_refused b line m = record {
-    calls = [];
-    ruled = record { calls_are = refl; not_failed = λ is. cc; leaves = refl };
-    made = made_none g (disk_of m);
-  }
-
-  pub runs_put : (b : ℕ) (line other : Line) (o : Outcome) (m n : Cache D g) → line ≡ other → Runs (PutsInFront b line) m o n → Runs (PutsInFront b other) m o n
-  runs_put b line other o m n same p = subst (λ (l : Line). Runs (PutsInFront b l) m o n) same p
 
   -- ---- a block that was read from the disk
 
   pub read_same_content : (a m : Cache D g) → held_of m ≡ held_of a → (IsTrue (shape_of a).tells → g.state (disk_of m) ≡ g.state (disk_of a)) → HasSameContent a m
   read_same_content a m held state told k below = λ i. cached (held i) (state told i) k
-
-  -- what was read is put in front, and has the content that it had
-  pub fetched_content : (b : ℕ) (bytes : List ℕ) (a m n : Cache D g) → shape_of m ≡ shape_of a → HasSameContent a m → (IsTrue (shape_of a).tells → bytes ≡ content_of a b) → HasWritten b bytes m n → HasSameContent a n
-  fetched_content b bytes a m n shape same given written told k below =
-      written_then b bytes a m n shape same written told k below ∙ (elim (cases_eq b k) [
-        | inl here ↦ put_here b k bytes (content_of a k) here ∙ subst (λ (j : ℕ). bytes ≡ content_of a j) here (given told)
-        | inr other ↦ put_elsewhere b k bytes (content_of a k) other
-      ])

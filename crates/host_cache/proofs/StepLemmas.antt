@@ -183,18 +183,6 @@ absent_room held b absent = elim (cases_eq (length held.lines) ENTRIES) [
   | inr free ↦ ap (λ (h : Held). line_at h.lines b) (room_free held free) ∙ absent
 ]
 
-pub room_made : (blocks size : ℕ) (held : Held) → IsKept blocks size held → length (with_room held).lines < ENTRIES
-room_made blocks size held kept = elim (cases_eq (length held.lines) ENTRIES) [
-  | inl full ↦
-      let split = split_full held full in
-      let is : length (with_room held).lines ≡ length split.front = ap (λ (h : Held). length h.lines) (evicted_is held full) in
-      let long : length held.lines ≡ length (split.front ++ split.last ∷ []) = ap (λ (l : Entries). length l) split.whole in
-      omega (arith, is, long, full, length-append split.front (split.last ∷ []))
-  | inr free ↦
-      let is : length (with_room held).lines ≡ length held.lines = ap (λ (h : Held). length h.lines) (room_free held free) in
-      omega (arith, is, free, kept.room)
-]
-
 -- ---- an entry is put in front
 
 room_in_front : (b : ℕ) (line : Line) (es : Entries) (o : Option Line) → line_at es b ≡ o → length es ≤ ENTRIES → (o ≢ None) ⊎ (length es < ENTRIES) → length (in_front b line es) ≤ ENTRIES

@@ -1,5 +1,4 @@
 // The device as a state behind a book.
-ghost use Rattle.std.specs.Prelude.{◌≡◌};
 
 use crate::device::Device;
 use crate::fixed::DeviceFixed;

@@ -1,5 +1,5 @@
 //! The pool: how it is made with its seats, and closed with all of them.
-ghost use Rattle.std.specs.Prelude.{◌≡◌, ℕ, ◌+◌, ◌*◌, ◌^◌, ◌<◌, ◌≤◌, [], false, length, replicate, slice_index_or, IfOk, vec_len, vec_capacity, All};
+ghost use Rattle.std.specs.Prelude.{◌≡◌, ℕ, ◌+◌, ◌*◌, ◌^◌, ◌<◌, ◌≤◌, [], false, replicate, slice_index_or, IfOk, vec_len, vec_capacity, All};
 ghost use Rattle.std.specs.Slots.{slots_items, slots_filled, slots_len, IsFull};
 ghost use Rattle.host_frames.specs.Sums.{total};
 ghost use Rattle.host_frames.specs.Homes.{IsBlankSlot, pages_at_home};

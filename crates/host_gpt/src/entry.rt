@@ -2,7 +2,7 @@
 ghost use Rattle.std.specs.Prelude.{◌≡◌, ◌≤◌, length};
 ghost use Rattle.host_gpt.specs.Entries.{entry_of, is_used, units};
 
-use crate::field::{u32_at, u64_at};
+use crate::field::u64_at;
 use byteorder::{ByteOrder, LittleEndian};
 
 /// A used entry of the table (UEFI 2.10, section 5.3.3).

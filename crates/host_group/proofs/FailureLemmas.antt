@@ -1,5 +1,5 @@
 -- What a failure's word tells.
-use Rattle.std.proofs.Common.{◌≡◌, ◌⊎◌, ℕ, ◌+◌, ◌*◌, ◌%◌, ◌≤◌, ◌<◌, refl, ap, ◌∙◌, inl, inr, ⊎_elim, arith, cond, ne_eqb}
+use Rattle.std.proofs.Common.{◌≡◌, ℕ, ◌+◌, ◌*◌, ◌%◌, ◌<◌, refl, ap, ◌∙◌, arith, cond, ne_eqb}
 use Rattle.host_record.specs.declared.status.Status.{Status}
 use Rattle.host_record.specs.declared.status.Status.TheVariants.{Ok, NotSupported, NoMemory, InvalidArgs, OutOfRange, TooSmall, NotFound, Io}
 use Rattle.host_group.specs.Failures.{no_failure, failure_word, status_of, status_of_bits}
@@ -17,27 +17,3 @@ status_of_word i OutOfRange small = word_status i 4 (omega arith) (omega arith) 
 status_of_word i TooSmall small = word_status i 5 (omega arith) (omega arith) small
 status_of_word i NotFound small = word_status i 6 (omega arith) (omega arith) small
 status_of_word i Io small = word_status i 7 (omega arith) (omega arith) small
-
-word_code : (i : ℕ) (s : Status) → (failure_word i s ≡ no_failure) ⊎ ((8 * i < failure_word i s) × (failure_word i s < 8 * i + 8))
-word_code i Ok = inl refl
-word_code i NotSupported = inr (omega arith, omega arith)
-word_code i NoMemory = inr (omega arith, omega arith)
-word_code i InvalidArgs = inr (omega arith, omega arith)
-word_code i OutOfRange = inr (omega arith, omega arith)
-word_code i TooSmall = inr (omega arith, omega arith)
-word_code i NotFound = inr (omega arith, omega arith)
-word_code i Io = inr (omega arith, omega arith)
-
--- the index decides first
-pub word_order : (i k : ℕ) (s t : Status) → failure_word i s < no_failure → failure_word k t < no_failure → failure_word i s ≤ failure_word k t → i ≤ k
-word_order i k s t a b le = ⊎_elim (λ e. absurd (omega arith)) (λ p. ⊎_elim (λ e. absurd (omega arith)) (λ q. let p0 = p.0 in let q1 = q.1 in omega arith) (word_code k t)) (word_code i s)
-
-word_fails : (i : ℕ) (s : Status) → 8 * i + 7 < no_failure → (s ≡ Ok) ⊎ (failure_word i s < no_failure)
-word_fails i Ok small = inl refl
-word_fails i NotSupported small = inr (omega arith)
-word_fails i NoMemory small = inr (omega arith)
-word_fails i InvalidArgs small = inr (omega arith)
-word_fails i OutOfRange small = inr (omega arith)
-word_fails i TooSmall small = inr (omega arith)
-word_fails i NotFound small = inr (omega arith)
-word_fails i Io small = inr (omega arith)

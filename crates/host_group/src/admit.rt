@@ -1,5 +1,5 @@
 //! The admitting seat admits members, and takes their rights back.
-ghost use Rattle.std.specs.Prelude.{◌≡◌, ◌≤◌, ◌<◌, ◌+◌, ◌*◌, ◌^◌, ◌++◌, [], ◌∷◌, true, false, IfOk, IfErr};
+ghost use Rattle.std.specs.Prelude.{◌≡◌, ◌≤◌, ◌<◌, ◌+◌, ◌*◌, ◌++◌, [], ◌∷◌, true, false, IfOk, IfErr};
 ghost use Rattle.host_group.specs.Seats.{IsAdmitting, IsClaiming, IsSeatAt, IsRight, IsUsed, IsFewerOut, admitted, back, next, refusals, row, member, view_of};
 ghost use Rattle.host_group.specs.declared.view.Stage.TheVariants.{Looked, Placed, Added};
 ghost use Rattle.host_group.specs.Views.{closings, fresh_row, name_of, refused_view, looking_view, placed_view, added_view};

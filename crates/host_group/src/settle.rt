@@ -4,7 +4,6 @@ ghost use Rattle.host_record.specs.declared.status.Status.TheVariants.{Ok};
 ghost use Rattle.host_group.specs.Seats.{IsRight, IsUnused, IsUsed, row};
 ghost use Rattle.host_group.specs.Ends.{end_of, end_in};
 ghost use Rattle.host_group.specs.Steps.{IsLast};
-ghost use Rattle.host_group.specs.declared.view.Row.{Row};
 ghost use Rattle.host_group.specs.declared.view.Progress.TheVariants.{Unsettled, Last, Ended, Passed};
 
 use crate::cells::{CLOSING, Cells, DEVICE_FRONT, ERROR, MEMORY_FRONT};

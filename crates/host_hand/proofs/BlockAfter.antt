@@ -1,5 +1,5 @@
 -- One run of steps after another.
-use Rattle.std.proofs.Common.{◌≡◌, ◌⊎◌, inl, inr, ℕ, ◌+◌, ◌≤◌, Bool, true, false, not, ◌&&◌, cond, Result, Ok, Err, List, [], ◌∷◌, ◌++◌, length, map, filter, take, drop, refl, sym, ap, ap₂, subst, ◌∙◌, arith, append_assoc, append-nil, length-append}
+use Rattle.std.proofs.Common.{◌≡◌, ℕ, ◌+◌, ◌≤◌, Bool, true, false, not, ◌&&◌, cond, Result, Ok, Err, List, [], ◌∷◌, ◌++◌, length, map, filter, take, drop, refl, sym, ap, ap₂, subst, ◌∙◌, arith, append_assoc, append-nil, length-append}
 use Rattle.std.specs.List.{All}
 use Rattle.std.proofs.lemmas.List.{map-append, take-append-drop}
 use Rattle.std.proofs.lemmas.List.Elements.{All-append, All-nil, filter-append}
@@ -19,7 +19,6 @@ use Rattle.host_record.specs.declared.request.Request.{Request}
 use Rattle.host_hand.specs.declared.errand.Errand.{Errand}
 use Rattle.host_hand.specs.declared.run.Run.{Run}
 use Rattle.host_hand.specs.Errands.{IsStepFor, ask_at, asks_upto}
-use Rattle.host_hand.specs.Growth.{HasGrown}
 use Rattle.host_hand.specs.Runs.{HasRun, IsRun, IsSpare, moved_by, status_by}
 use Rattle.host_hand.proofs.BlockRuns.{no_moves, no_spare}
 use Rattle.host_hand.proofs.Growing.{grown_after, grown_as, grown_refl, longer_length}
@@ -57,11 +56,6 @@ carried_longer (a ∷ asks) more (s ∷ steps) c = longer_step (is_step_for a s)
 ok_not_err : (x : StepError) → status_by (Ok tt) ≡ status_by (Err x) → ⊥
 ok_not_err Fault e = absurd (cc e)
 ok_not_err Oom e = absurd (cc e)
-
-ended_step : (m f k : Bool) (steps : List Step) (l : Bool) → (m && cond f k l) ≡ true → f ≡ false → l ≡ true
-ended_step true true k steps l c n = absurd (cc n)
-ended_step true false k steps l c n = c
-ended_step false f k steps l c n = absurd (cc c)
 
 ended_longer : (asks more : List Ask) (steps : List Step) (x : StepError) → carries_out asks steps ≡ true → ended asks steps ≡ status_by (Err x) → ended (asks ++ more) steps ≡ status_by (Err x)
 ended_longer [] more [] x c e = absurd (ok_not_err x e)

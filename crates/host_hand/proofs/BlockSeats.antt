@@ -1,12 +1,10 @@
 -- Seats that a hand has used, and the steps on one block after another.
-use Rattle.std.proofs.Common.{◌≡◌, ℕ, ◌+◌, ◌≤◌, ◌<◌, Bool, true, false, Result, Ok, Err, List, [], ◌∷◌, ◌++◌, length, drop, Option, refl, sym, ap, subst, ◌∙◌, arith}
+use Rattle.std.proofs.Common.{◌≡◌, ℕ, ◌+◌, ◌≤◌, ◌<◌, true, false, Result, Ok, Err, List, [], ◌∷◌, drop, Option, refl, sym, subst, ◌∙◌, arith}
 use Rattle.std.specs.Prelude.{is_err, is_ok}
 use Rattle.atomic_table.specs.Seated.{TableId}
 use Rattle.host_block.specs.declared.op.Op.{Op}
 use Rattle.host_block.specs.declared.op.Op.TheVariants.{Read, Write, Trim, Flush}
-use Rattle.host_block.specs.declared.range.Range.{Range}
 use Rattle.host_device.specs.declared.error.StepError.{StepError}
-use Rattle.host_device.specs.declared.fixed.DeviceFixed.{DeviceFixed}
 use Rattle.host_intake.specs.State.{MemorySeat}
 use Rattle.host_model.specs.declared.memory.MemEntry.{MemEntry}
 use Rattle.host_model.specs.declared.step.Step.{Step}
@@ -18,7 +16,6 @@ use Rattle.host_hand.specs.declared.run.Run.{Run}
 use Rattle.host_hand.specs.Blocks.{HoldsFor}
 use Rattle.host_hand.specs.Buffers.{IsAtBuffers, IsHeld, IsOfPool}
 use Rattle.host_hand.specs.Errands.{ask_at, asks_upto}
-use Rattle.host_hand.specs.Posts.{IsAtDevice}
 use Rattle.host_hand.specs.Runs.{HasRun}
 use Rattle.host_hand.specs.Works.{IsTransferBy}
 use Rattle.host_hand.proofs.BlockAfter.{has_after, has_stopped, upto_length, upto_more, upto_rest}
@@ -35,10 +32,6 @@ at_buffers book n size old new a same out = record { book_is = same.0 ∙ a.book
 
 pub of_pool_still : (pool : TableId × ℕ) (old new : MemorySeat) → IsOfPool pool old → IsSameSeat old new → IsOfPool pool new
 of_pool_still pool old new a same = λ plan is. a plan (sym same.3 ∙ is)
-
-module _ {S E D : Type 0} where
-  pub at_device : (book : TableId) (n : ℕ) (part : Range) (size : ℕ) (old new : BookSeat S E (DeviceFixed D)) → IsAtDevice book n part size old → IsSameSeat old new → IsOutside new → IsAtDevice book n part size new
-  at_device book n part size old new a same out = record { book_is = same.0 ∙ a.book_is; outside = out; number_is = same.2 ∙ a.number_is; fits = a.fits; on_device = λ fixed is. a.on_device fixed (sym same.3 ∙ is) }
 
 -- ---- all blocks
 

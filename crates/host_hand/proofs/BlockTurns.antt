@@ -1,52 +1,30 @@
 -- One block of a record, in a turn of the buffers and after it.
-use Rattle.std.proofs.Common.{◌≡◌, ℕ, ◌+◌, ◌≤◌, ◌<◌, ◌^◌, Bool, true, false, Result, Ok, Err, List, [], ◌∷◌, ◌++◌, length, take, drop, refl, sym, ap, subst, ◌∙◌, arith, append-nil}
-use Rattle.std.specs.Prelude.{IfOk, OnErr, is_ok}
-use Rattle.std.specs.List.{list_any}
-use Rattle.std.specs.Option.{ForSome}
+use Rattle.std.proofs.Common.{◌≡◌, ℕ, ◌+◌, ◌≤◌, Result, Ok, Err, List, [], ◌∷◌, ◌++◌, length, take, drop, refl, sym, ap, subst, ◌∙◌, arith, append-nil}
+use Rattle.std.specs.Prelude.{IfOk, OnErr}
 use Rattle.std.proofs.lemmas.List.{take-append-le}
 use Rattle.std.proofs.Math.Seq.{take-length}
-use Rattle.atomic_table.specs.Seated.{TableId}
 use Rattle.host_block.specs.declared.op.Op.{Op}
-use Rattle.host_block.specs.declared.op.Op.TheVariants.{Read, Write, Trim, Flush}
+use Rattle.host_block.specs.declared.op.Op.TheVariants.{Read, Write, Trim}
 use Rattle.host_device.specs.declared.error.StepError.{StepError}
-use Rattle.host_device.specs.declared.error.StepError.TheVariants.{Fault, Oom}
-use Rattle.host_device.specs.declared.fixed.DeviceFixed.{DeviceFixed}
+use Rattle.host_device.specs.declared.error.StepError.TheVariants.{Oom}
 use Rattle.host_device.specs.Entries.{entries_added, entry_of}
 use Rattle.host_intake.specs.Takings.{under}
-use Rattle.host_memory.specs.Pins.{is_done_for}
 use Rattle.host_model.specs.declared.memory.MemEntry.{MemEntry}
-use Rattle.host_model.specs.declared.memory.MemEvent.{MemEvent}
 use Rattle.host_model.specs.declared.memory.MemEvent.TheVariants.{Lift, Land}
 use Rattle.host_model.specs.declared.step.Step.{Step}
 use Rattle.host_model.specs.Carrying.{Ask}
 use Rattle.host_model.specs.RecordEntries.{lift_for}
-use Rattle.host_turn.specs.declared.seat.BookSeat.{BookSeat}
 use Rattle.host_turn.specs.History.{Continues}
-use Rattle.host_turn.specs.Seats.{fixed_part}
 use Rattle.host_hand.specs.declared.errand.Errand.{Errand}
 use Rattle.host_hand.specs.declared.run.Run.{Run}
-use Rattle.host_hand.specs.Blocks.{HasRunInTurn, HoldsFor, IsInside}
+use Rattle.host_hand.specs.Blocks.{HasRunInTurn}
 use Rattle.host_hand.specs.Buffers.{IsHeld}
 use Rattle.host_hand.specs.Errands.{ask_at}
 use Rattle.host_hand.specs.Growth.{HasGrown}
-use Rattle.host_hand.specs.Posts.{IsAtDevice, IsOnDevice}
 use Rattle.host_hand.specs.Runs.{HasRun, IsRun}
 use Rattle.host_hand.proofs.BlockRuns.{failed_run, landed_run, plain_run, refused_run, run_keeps, write_run}
-use Rattle.host_hand.proofs.Growing.{grown_nothing, grown_refl, grown_turn, longer_length}
+use Rattle.host_hand.proofs.Growing.{grown_nothing, grown_refl, grown_turn}
 use Rattle.host_hand.proofs.HoldPins.{all_under, held_grown, held_still}
-
--- ---- its number on the device
-
-pub block_fits : (first count offset length k : ℕ) → first + count < 2 ^ 64 → offset + length ≤ count → k < length → first + offset + k < 2 ^ 64
-block_fits first count offset length k fits inside lt = omega arith
-
-module _ {S E D : Type 0} where
-  pub block_there : (e : Errand) (k : ℕ) (book : TableId) (seat : BookSeat S E (DeviceFixed D)) → IsAtDevice book e.hand e.part e.size seat → IsInside e → k < e.request.length
-      → ForSome (fixed_part seat) (λ fixed. e.part.first + e.request.dev_offset + k < fixed.blocks)
-  block_there e k book seat at inside lt fixed is = let d = at.on_device fixed is in let w = d.within in omega arith
-
-  pub piece_long : (e : Errand) (n : ℕ) (book : TableId) (seat : BookSeat S E (DeviceFixed D)) → IsAtDevice book e.hand e.part e.size seat → n ≡ e.size → ForSome (fixed_part seat) (λ fixed. n ≡ fixed.size)
-  piece_long e n book seat at is fixed there = is ∙ sym (at.on_device fixed there).size_is
 
 -- the bytes of which all were written
 pub all_written : (ks ws : List ℕ) → length ws ≡ length ks → take (length ks) (ws ++ drop (length ws) ks) ≡ ws
@@ -172,7 +150,3 @@ module _ (e : Errand) (k : ℕ) (run : Run) (s u : List Step) (front : run.front
     buffers = grown_refl (λ (x : MemEntry). x.hand) e.hand e.memory_front (length h) h;
     front = omega arith;
   }
-
--- what was told of the device before is no longer than what it tells now
-pub front_grows : (e : Errand) (front stop : ℕ) (added s u : List Step) → front ≤ length s → HasGrown (λ (y : Step). y.hand) e.hand e.device_front stop added s u → stop ≡ length u → front ≤ stop
-front_grows e front stop added s u le g is = let l : length s ≤ length u = longer_length s u g.begins in omega arith

@@ -1,29 +1,23 @@
 -- A record was carried out.
-use Rattle.std.proofs.Common.{◌≡◌, ◌⊎◌, inl, inr, ℕ, ◌+◌, ◌≤◌, ◌<◌, ◌==◌, Bool, true, false, cond, Result, Ok, Err, List, [], ◌∷◌, ◌++◌, length, map, Option, Some, None, refl, sym, ap, ap₂, subst, ◌∙◌, arith, append_assoc, append-nil}
+use Rattle.std.proofs.Common.{◌≡◌, ◌⊎◌, inl, inr, ℕ, ◌+◌, ◌≤◌, ◌==◌, Bool, true, false, cond, Ok, List, [], ◌∷◌, ◌++◌, length, Option, Some, None, refl, sym, ap, ap₂, subst, ◌∙◌, arith, append_assoc, append-nil}
 use Rattle.std.specs.Prelude.{slice_get, sum}
 use Rattle.std.specs.List.{All, cons_option}
-use Rattle.std.proofs.lemmas.List.{map-append}
 use Rattle.std.proofs.lemmas.List.Elements.{All-nil, All-cons, All-head, All-tail, All-append}
 use Rattle.std.proofs.lemmas.Option.{slice_get_within}
-use mathlib.Core.List.{IsPrefix}
 use Rattle.atomic_table.specs.Seated.{TableId}
 use Rattle.host_block.specs.declared.op.Op.{Op}
 use Rattle.host_block.specs.declared.op.Op.TheVariants.{Read, Write, Trim, Flush}
-use Rattle.host_device.specs.declared.error.StepError.{StepError}
-use Rattle.host_device.specs.Entries.{entries_added}
 use Rattle.host_frames.specs.Seats.{SeenPages}
 use Rattle.host_intake.specs.declared.entry.RecordEnd.{RecordEnd}
 use Rattle.host_intake.specs.Takings.{under}
 use Rattle.host_intake.proofs.Judging.{get_append}
-use Rattle.host_memory.specs.State.{events}
 use Rattle.host_model.specs.declared.memory.MemEntry.{MemEntry}
 use Rattle.host_model.specs.declared.memory.MemEvent.{MemEvent}
 use Rattle.host_model.specs.declared.memory.MemEvent.TheVariants.{Attach, Fill, Show, Pin, Lift, Land, Done, Release}
 use Rattle.host_model.specs.declared.memory.MemEvent.TheVariants as mem
 use Rattle.host_model.specs.declared.step.Step.{Step}
-use Rattle.host_model.specs.declared.verdict.Verdict.{Verdict}
-use Rattle.host_model.specs.declared.verdict.Verdict.TheVariants.{Accepted, Refused}
-use Rattle.host_model.specs.Carrying.{Ask, asked_by, carries_out, ended}
+use Rattle.host_model.specs.declared.verdict.Verdict.TheVariants.{Accepted}
+use Rattle.host_model.specs.Carrying.{asked_by, carries_out, ended}
 use Rattle.host_model.specs.Lists.{map_after, map_with_before}
 use Rattle.host_record.specs.declared.opcode.Opcode.{Opcode}
 use Rattle.host_record.specs.declared.opcode.Opcode.TheVariants as opcode
@@ -31,8 +25,7 @@ use Rattle.host_record.specs.declared.status.Status.{Status}
 use Rattle.host_record.specs.declared.status.Status.TheVariants as status
 use Rattle.host_record.specs.Command.{opcode}
 use Rattle.host_turn.specs.History.{Continues, entries_of}
-use Rattle.host_turn.proofs.Histories.{prefix_refl, prefix_trans}
-use Rattle.host_hand.specs.declared.carry.Carried.{Carried}
+use Rattle.host_turn.proofs.Histories.{prefix_refl}
 use Rattle.host_hand.specs.declared.errand.Errand.{Errand}
 use Rattle.host_hand.specs.declared.run.Run.{Run}
 use Rattle.host_hand.specs.declared.work.Work.{Work}
@@ -49,7 +42,7 @@ use Rattle.host_hand.proofs.BlockAfter.{under_append}
 use Rattle.host_hand.proofs.CarryMoves.{done_named, named_under, no_release, read_moves, run_named, trim_moves, write_moves}
 use Rattle.host_hand.proofs.Entered.{map_with_before_append}
 use Rattle.host_hand.proofs.Framing.{released_still}
-use Rattle.host_hand.proofs.Growing.{grown_after, grown_as, grown_continues, grown_none, grown_nothing, grown_refl, longer_length, not_between, own_place, own_rest}
+use Rattle.host_hand.proofs.Growing.{grown_after, grown_as, grown_continues, grown_nothing, grown_refl, longer_length, not_between, own_place, own_rest}
 
 -- ---- nothing was done to buffers
 

@@ -1,5 +1,5 @@
 -- What the steps of a record leave with its buffer, as its end tells.
-use Rattle.std.proofs.Common.{◌≡◌, ◌≢◌, ◌⊎◌, inl, inr, ℕ, zero, suc, ◌+◌, ◌≤◌, ◌<◌, ◌==◌, Bool, true, false, not, ◌&&◌, cond, Result, Ok, Err, List, [], ◌∷◌, ◌++◌, length, map, filter, filter_map, take, Option, Some, None, refl, sym, ap, ap₂, subst, ◌∙◌, arith, append_assoc, append-nil, eq-eqb, ne_eqb}
+use Rattle.std.proofs.Common.{◌≡◌, ◌≢◌, inl, inr, ℕ, zero, suc, ◌+◌, ◌<◌, ◌==◌, Bool, true, false, not, ◌&&◌, cond, Result, Ok, Err, List, [], ◌∷◌, ◌++◌, length, map, filter, filter_map, take, Some, None, refl, sym, ap, subst, ◌∙◌, arith, append-nil, eq-eqb, ne_eqb}
 use Rattle.std.specs.Bool.{then_some}
 use Rattle.std.specs.List.{All, cons_option, range_with_len}
 use Rattle.std.proofs.lemmas.Bool.{eqb-true}

@@ -1,10 +1,11 @@
 -- How the records of a hand ended stays so, while the hand works on another record.
-use Rattle.std.proofs.Common.{◌≡◌, ◌≢◌, ℕ, zero, suc, ◌+◌, ◌≤◌, ◌<◌, Bool, true, false, not, ◌&&◌, ◌==◌, cond, IsTrue, List, [], ◌∷◌, ◌++◌, length, map, filter, filter_map, take, Option, Some, None, refl, sym, ap, ap₂, subst, ◌∙◌, ◌⊎◌, inl, inr, arith, append-nil, eq-eqb, ne_eqb}
+use Rattle.std.proofs.Common.{◌≡◌, ◌≢◌, ℕ, ◌≤◌, ◌<◌, Bool, true, false, ◌&&◌, ◌==◌, cond, List, [], ◌∷◌, ◌++◌, length, filter, filter_map, take, Option, Some, None, refl, sym, ap, ap₂, ◌∙◌, ◌⊎◌, inl, inr, arith, append-nil, eq-eqb, ne_eqb}
+use Rattle.std.proofs.Math.Bool.{and-false}
 use Rattle.std.specs.Prelude.{MatchOption, is_some}
 use Rattle.std.specs.Bool.{then_some}
 use Rattle.std.specs.List.{All, cons_option, slice_get}
 use Rattle.std.proofs.lemmas.List.{map-append, take-append-le}
-use Rattle.std.proofs.lemmas.List.Elements.{All-nil, All-cons, All-append, All-head, All-tail, filter-append, filter_map-append}
+use Rattle.std.proofs.lemmas.List.Elements.{All-nil, All-cons, All-head, All-tail, filter-append, filter_map-append}
 use Rattle.std.proofs.lemmas.Option.{slice_get_within}
 use mathlib.Core.List.{IsPrefix}
 use Rattle.host_block.specs.declared.range.Range.{Range}
@@ -20,12 +21,11 @@ use Rattle.host_memory.specs.State.{events}
 use Rattle.host_turn.specs.History.{entries_of}
 use Rattle.host_intake.specs.declared.entry.IntakeEntry.{IntakeEntry}
 use Rattle.host_intake.specs.Entries.{Landing, Taking, request_in, takings}
-use Rattle.host_intake.specs.Takings.{under}
-use Rattle.host_hand.specs.Growth.{EachOwn, HasGrown}
+use Rattle.host_hand.specs.Growth.{HasGrown}
 use Rattle.host_session.specs.Moves.{moves_for, moves_owed}
 use Rattle.host_hand.specs.Records.{HasClosed, HasEnded, HasReleased, IsClosedBefore, IsEnding, asks_in, steps_for}
 use Rattle.host_hand.proofs.Entered.{taken_longer, taking_longer}
-use Rattle.host_hand.proofs.Growing.{longer_length, own_grown, stands_longer}
+use Rattle.host_hand.proofs.Growing.{own_grown, stands_longer}
 
 pub all_map : {A : Type 0} (P Q : A → Type 0) (xs : List A) → ((x : A) → P x → Q x) → All P xs → All Q xs
 all_map P Q [] f h = All-nil Q
@@ -36,10 +36,6 @@ all_map P Q (x ∷ xs) f h = All-cons Q x xs (f x (All-head P x xs h)) (all_map 
 abbrev pub is_step_of : ℕ → ℕ → Step → Bool
 is_step_of s i step = step.session == s && step.index == i
 
-and_false : (a : Bool) → (a && false) ≡ false
-and_false true = refl
-and_false false = refl
-
 pub steps_added : (n s i front stop : ℕ) (added old new : List Step) → HasGrown (λ step. step.hand) n front stop added old new → steps_for n s i new ≡ steps_for n s i old ++ filter (is_step_of s i) added
 steps_added n s i front stop added old new g = ap (filter (is_step_of s i)) g.own ∙ filter-append (is_step_of s i) (entries_of (λ step. step.hand) n old) added
 
@@ -47,7 +43,7 @@ steps_added n s i front stop added old new g = ap (filter (is_step_of s i)) g.ow
 pub steps_of_other : (s i j : ℕ) (steps : List Step) → i ≢ j → All (λ (step : Step). step.index ≡ j) steps → filter (is_step_of s i) steps ≡ []
 steps_of_other s i j [] ne all = refl
 steps_of_other s i j (step ∷ steps) ne all =
-    let other : (step.session == s && step.index == i) ≡ false = ap (λ b. step.session == s && b) (ne_eqb step.index i (λ e. ne (sym e ∙ All-head (λ (x : Step). x.index ≡ j) step steps all))) ∙ and_false (step.session == s) in
+    let other : (step.session == s && step.index == i) ≡ false = ap (λ b. step.session == s && b) (ne_eqb step.index i (λ e. ne (sym e ∙ All-head (λ (x : Step). x.index ≡ j) step steps all))) ∙ and-false (step.session == s) in
     ap (λ b. cond b (step ∷ filter (is_step_of s i) steps) (filter (is_step_of s i) steps)) other ∙ steps_of_other s i j steps ne (All-tail (λ (x : Step). x.index ≡ j) step steps all)
 
 pub steps_of_this : (s i : ℕ) (steps : List Step) → All (λ (step : Step). (step.session ≡ s) × (step.index ≡ i)) steps → filter (is_step_of s i) steps ≡ steps

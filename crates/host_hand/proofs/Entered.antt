@@ -1,20 +1,18 @@
 -- What a hand knows of the intake's history, as it grows.
-use Rattle.std.proofs.Common.{◌≡◌, ℕ, zero, suc, ◌+◌, ◌≤◌, ◌<◌, Bool, true, false, not, ◌||◌, ◌&&◌, ◌==◌, cond, List, [], ◌∷◌, ◌++◌, length, filter_map, Option, Some, None, refl, sym, ap, ap₂, subst, ◌∙◌, arith, append_assoc, append-nil, length-append, eq-eqb}
-use Rattle.std.specs.Prelude.{MatchOption, option_to_list}
-use Rattle.std.specs.List.{All, cons_option, list_all, list_any, slice_get}
+use Rattle.std.proofs.Common.{◌≡◌, ℕ, ◌≤◌, Bool, true, false, not, ◌==◌, cond, List, [], ◌∷◌, ◌++◌, length, filter_map, Option, Some, None, refl, sym, ap, ap₂, subst, ◌∙◌, arith, append_assoc, append-nil, length-append, eq-eqb}
+use Rattle.std.specs.Prelude.{MatchOption}
+use Rattle.std.specs.List.{cons_option, list_all, slice_get}
 use Rattle.std.proofs.lemmas.List.Elements.{filter_map-append}
-use Rattle.std.proofs.lemmas.Option.{slice_get_within}
 use mathlib.Core.List.{IsPrefix}
 use Rattle.host_model.specs.declared.memory.MemEntry.{MemEntry}
 use Rattle.host_model.specs.declared.step.Step.{Step}
 use Rattle.host_model.specs.Lists.{map_after, map_with_before}
 use Rattle.host_model.specs.RecordEntries.{index_of}
 use Rattle.host_rings.specs.declared.slip.Slip.{Slip}
-use Rattle.host_turn.specs.History.{Continues, entries_of}
-use Rattle.host_turn.proofs.Histories.{entries-append}
+use Rattle.host_turn.specs.History.{entries_of}
 use Rattle.host_intake.specs.declared.entry.IntakeEntry.{IntakeEntry}
 use Rattle.host_intake.specs.declared.entry.IntakeEntry.TheVariants.{Took, Landed, Passed, Turned}
-use Rattle.host_intake.specs.Entries.{Landing, Taking, landing_of, landings, maker_of, taking_of, takings}
+use Rattle.host_intake.specs.Entries.{Taking, landing_of, landings, maker_of, taking_of, takings}
 use Rattle.host_intake.specs.Told.{is_passed, kept_slips}
 use Rattle.host_intake.proofs.Ledgering.{and_left, and_right}
 use Rattle.host_hand.specs.Growth.{HasAdded}

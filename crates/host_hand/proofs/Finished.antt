@@ -1,15 +1,14 @@
 -- A record has ended: what the hand keeps then.
-use Rattle.std.proofs.Common.{◌≡◌, ◌≢◌, ℕ, zero, suc, ◌+◌, ◌≤◌, ◌<◌, Bool, true, false, not, ◌&&◌, ◌||◌, ◌==◌, cond, IsTrue, List, [], ◌∷◌, ◌++◌, length, map, filter, filter_map, take, drop, min, Option, Some, None, refl, sym, ap, ap₂, subst, ◌∙◌, ◌⊎◌, inl, inr, ⊎_elim, arith, append-nil, append_assoc, length-append, length-drop, eq-eqb, ne_eqb}
-use Rattle.std.specs.Prelude.{MatchOption, option_to_list, sum}
+use Rattle.std.proofs.Common.{◌≡◌, ℕ, suc, ◌+◌, ◌≤◌, ◌<◌, Bool, true, false, ◌&&◌, ◌||◌, ◌==◌, cond, List, [], ◌∷◌, ◌++◌, length, map, filter, filter_map, Option, Some, None, refl, sym, ap, ap₂, subst, ◌∙◌, ◌⊎◌, inl, inr, ⊎_elim, arith, append-nil, append_assoc, length-append, eq-eqb, ne_eqb}
+use Rattle.std.proofs.Math.Bool.{or-true}
+use Rattle.std.specs.Prelude.{MatchOption, sum}
 use Rattle.std.specs.List.{All, cons_option, list_all, list_any, slice_get}
 use Rattle.std.proofs.lemmas.Bool.{eqb-true, le-leb}
-use Rattle.std.proofs.lemmas.List.{map-append}
 use Rattle.std.proofs.lemmas.List.Elements.{All-nil, All-cons, All-append, All-head, All-tail, filter-append, filter_map-append}
 use Rattle.std.proofs.lemmas.List.Folds.{list_all-append, list_any-append}
 use Rattle.std.proofs.lemmas.Option.{slice_get_within}
 use mathlib.Core.List.{IsPrefix}
 use Rattle.atomic_table.specs.Seated.{TableId}
-use Rattle.host_block.specs.declared.range.Range.{Range}
 use Rattle.host_frames.specs.Seats.{SeenPages}
 use Rattle.host_model.specs.declared.memory.MemEntry.{MemEntry}
 use Rattle.host_model.specs.declared.memory.MemEvent.{MemEvent}
@@ -21,49 +20,41 @@ use Rattle.host_model.specs.Carrying.{asked, carries_out, outcome_of}
 use Rattle.host_model.specs.Lists.{count}
 use Rattle.host_model.specs.RecordEntries.{entry_of, index_of}
 use Rattle.host_memory.specs.State.{events}
-use Rattle.host_record.specs.declared.opcode.Opcode.{Opcode}
-use Rattle.host_record.specs.declared.opcode.Opcode.TheVariants as opcode
-use Rattle.host_record.specs.declared.status.Status.{Status}
-use Rattle.host_record.specs.declared.status.Status.TheVariants as status
 use Rattle.host_record.specs.Command.{opcode}
 use Rattle.host_rings.specs.declared.slip.Slip.{Slip}
 use Rattle.host_rings.specs.AnswerEnds.{SlipSenderState}
-use Rattle.host_turn.specs.History.{entries_of}
 use Rattle.host_intake.specs.declared.entry.IntakeEntry.{IntakeEntry}
 use Rattle.host_intake.specs.declared.entry.IntakeEntry.TheVariants.{Landed}
 use Rattle.host_intake.specs.declared.entry.RecordEnd.{RecordEnd}
 use Rattle.host_intake.specs.Admissions.{entry_for}
 use Rattle.host_intake.specs.Entries.{Landing, Taking, is_landing_of, landing_of, landings, maker_of, place_of, request_in, taking_of, takings}
-use Rattle.host_intake.specs.Takings.{IsJudged, left_by, made, made_for, made_under, under}
+use Rattle.host_intake.specs.Takings.{made, under}
 use Rattle.host_intake.proofs.Judging.{get_last}
 use Rattle.host_session.specs.declared.spec.SessionSpec.{SessionSpec}
 use Rattle.host_hand.specs.declared.carry.Carried.{Carried}
 use Rattle.host_hand.specs.declared.errand.Errand.{Errand}
 use Rattle.host_hand.specs.declared.work.Work.{Work}
-use Rattle.host_hand.specs.declared.work.Work.TheVariants as work
-use Rattle.host_hand.specs.Buffers.{IsFreed, pages_freed, release_of}
-use Rattle.host_hand.specs.Ends.{HasLandedClose, LandsFreed, slips_pushed, with_slips}
+use Rattle.host_hand.specs.Buffers.{pages_freed, release_of}
+use Rattle.host_hand.specs.Ends.{LandsFreed, slips_pushed, with_slips}
 use Rattle.host_hand.specs.Errands.{IsStepFor, errand_of}
 use Rattle.host_hand.specs.Frames.{is_closer, pages_of, taken_out}
 use Rattle.host_hand.specs.Visits.{begun_by, is_begun}
-use Rattle.host_hand.specs.Growth.{EachOwn, HasAdded, HasGrown}
+use Rattle.host_hand.specs.Growth.{HasAdded}
 use Rattle.host_hand.specs.Jobs.{HasTakenNext}
 use Rattle.host_hand.specs.Kept.{IsAtSession, is_judged_within, is_settled, own_landings, own_takings}
 use Rattle.host_session.specs.Moves.{moves_for, moves_owed}
-use Rattle.host_hand.specs.Records.{HasClosed, HasEnded, HasReleased, IsEnding, IsMoveTaken, IsPastTaking, IsStepTaken, IsTakenBy, steps_for}
+use Rattle.host_hand.specs.Records.{HasEnded, IsEnding, IsMoveTaken, IsPastTaking, IsStepTaken, IsTakenBy, steps_for}
 use Rattle.host_session.specs.Handed.{handed_by}
-use Rattle.host_hand.specs.Works.{HasCarried, IsFor, IsMoveFor, IsOutcome, IsPastBuffers, verdict_of}
-use Rattle.host_hand.proofs.Endings.{IsOf, all_map, entry_other, is_step_of, moves_added, released_longer, steps_added, steps_of_this}
-use Rattle.host_hand.proofs.Entered.{handed_added, is_no_pass, own_takings_added, slip_now, taken_longer, taking_longer}
+use Rattle.host_hand.specs.Works.{HasCarried, IsFor, IsMoveFor, IsOutcome, verdict_of}
+use Rattle.host_hand.proofs.Endings.{IsOf, all_map, entry_other, is_step_of, moves_added, steps_added, steps_of_this}
+use Rattle.host_hand.proofs.Entered.{handed_added, is_no_pass, own_takings_added, slip_now, taken_longer}
 use Rattle.host_hand.proofs.Framing.{closed_added, closed_longer}
 use Rattle.host_hand.proofs.Growing.{added_after, longer_length, own_grown, own_place}
 use Rattle.host_hand.proofs.Keeping.{Growth, begun_added, kept_more, taken_added}
+use Rattle.host_hand.proofs.FreedCloses.{FreedClose, freed_close, slip_now_pushed}
+use Rattle.host_hand.proofs.LeftBehind.{judged_room, taking_below}
 
 -- ---- lists
-
-or_true : (a : Bool) → (a || true) ≡ true
-or_true true = refl
-or_true false = refl
 
 -- no element of the one kind is of the other
 none_twice : {A : Type 0} (p q : A → Bool) (xs : List A) → ((k : ℕ) (x : A) → slice_get xs k ≡ Some x → q x ≡ true → p x ≡ false) → filter p (filter q xs) ≡ []
@@ -82,7 +73,7 @@ none_of f g q (x ∷ xs) never = at (q x) refl (none_of f g q xs (λ k y at is. 
     at true is rest = ap (λ o. cons_option o (filter_map f (map g (filter q xs)))) (never 0 x refl is) ∙ rest
     at false is rest = rest
 
-events_under : (n : ℕ) (ms : List MemEvent) → events (under n ms) ≡ ms
+pub events_under : (n : ℕ) (ms : List MemEvent) → events (under n ms) ≡ ms
 events_under n [] = refl
 events_under n (m ∷ ms) = ap (λ l. m ∷ l) (events_under n ms)
 
@@ -98,69 +89,6 @@ release_none i v (Some f) = refl
 under_all : (P : MemEntry → Type 0) (n : ℕ) (ms : List MemEvent) → All (λ m. P (record { hand = n; what = m })) ms → All P (under n ms)
 under_all P n [] all = All-nil P
 under_all P n (m ∷ ms) all = All-cons P (record { hand = n; what = m }) (under n ms) (All-head (λ m. P (record { hand = n; what = m })) m ms all) (under_all P n ms (All-tail (λ m. P (record { hand = n; what = m })) m ms all))
-
-slip_now_pushed : (n i : ℕ) (end : RecordEnd) (answer : Option Slip) (kept : Bool) → filter_map slip_now (Landed n i end answer kept ∷ []) ≡ slips_pushed kept answer
-slip_now_pushed n i end answer true = refl
-slip_now_pushed n i end None false = refl
-slip_now_pushed n i end (Some slip) false = refl
-
--- ---- room behind what taking a record left
-
-left_length : (n : ℕ) (t : Taking) → length (left_by n t) ≡ length (made t)
-left_length n t = at (made t)
-  where
-    at : (ms : List MemEvent) → length (under n ms) ≡ length ms
-    at [] = refl
-    at (m ∷ ms) = ap suc (at ms)
-
-take_within : {A : Type 0} (m : ℕ) (xs : List A) → length (take m xs) ≤ length xs
-take_within zero xs = omega arith
-take_within (suc m) [] = omega arith
-take_within (suc m) (x ∷ xs) = let ih = take_within m xs in omega arith
-
-pub judged_room : (part : Range) (number : ℕ) (h : List MemEntry) (t : Taking) → IsJudged part number h t → t.seen + length (made t) ≤ length h
-judged_room part number h t j = omega (arith, ap length j.left, left_length number t, take_within (length (made t)) (drop t.seen h), length-drop t.seen h, j.seen)
-
--- ---- the closes whose last pin was let go of
-
-pub record FreedClose (spec : SessionSpec) (n : ℕ) (es more last : List IntakeEntry) (h : List MemEntry) (made : List Step) (was pushed : List Slip) : Type 0 where
-  pub added : List IntakeEntry
-  pub has_added : HasAdded maker_of n added es more
-  pub takes : takings added ≡ []
-  pub passes : list_all is_no_pass added ≡ true
-  pub begins : count is_begun added ≡ 0
-  pub endings : All (IsEnding spec.part spec.number n last h made) (landings added)
-  pub slips : pushed ≡ was ++ filter_map slip_now added
-
-freed_close : (spec : SessionSpec) (n : ℕ) (e : Errand) (pool : TableId × ℕ) (front : ℕ) (freed : Option (ℕ × SeenPages)) (es more last : List IntakeEntry) (h : List MemEntry) (made : List Step) (s s' : SlipSenderState)
-    → e.hand ≡ n → IsPrefix more last → IsFreed e pool front h freed → LandsFreed n front freed es more s s' → FreedClose spec n es more last h made s.pushed s'.pushed
-freed_close spec n e pool front None es more last h made s s' by b f k = record {
-  added = [];
-  has_added = record { begins = ([], append-nil es ∙ sym k.0); own = ap (entries_of maker_of n) k.0 ∙ sym (append-nil (entries_of maker_of n es)) };
-  takes = refl;
-  passes = refl;
-  begins = refl;
-  endings = All-nil (IsEnding spec.part spec.number n last h made);
-  slips = ap (λ (x : SlipSenderState). x.pushed) k.1 ∙ sym (append-nil s.pushed);
-}
-freed_close spec n e pool front (Some freed) es more last h made s s' by b f k =
-    let end : RecordEnd = record { outcome = status.Ok; device_front = 0; memory_front = front } in
-    let l : Landing = record { hand = n; index = freed.0; end = end; answer = k.answer; kept = k.kept } in
-    let closed : HasClosed n last h l = record {
-      waits = taking_longer (λ t. t.waits ≡ true) more last freed.0 b k.waits;
-      outcome = refl;
-      buffer = e.request.vmoid;
-      released = subst (λ m. HasReleased m freed.0 e.request.vmoid front h) by f.1;
-    } in
-    record {
-      added = Landed n freed.0 end k.answer k.kept ∷ [];
-      has_added = k.added;
-      takes = refl;
-      passes = refl;
-      begins = refl;
-      endings = All-cons (IsEnding spec.part spec.number n last h made) l [] (inr closed) (All-nil (IsEnding spec.part spec.number n last h made));
-      slips = ap (λ (x : SlipSenderState). x.pushed) k.sender ∙ ap (λ m. s.pushed ++ m) (sym (slip_now_pushed n freed.0 end k.answer k.kept));
-    }
 
 -- ---- the record that was carried out
 
@@ -195,22 +123,6 @@ moves_meant e (Refused status) n end steps moves o = subst (λ ms. All (λ m. Is
 
 entries_meant : (e : Errand) (v : Verdict) (n b : ℕ) (end : RecordEnd) (steps : List Step) (moves : List MemEvent) (freed : Option (ℕ × SeenPages)) → IsOutcome e v end steps moves → All (IsMeant v e.index) (under n (moves ++ release_of b freed))
 entries_meant e v n b end steps moves freed o = under_all (IsMeant v e.index) n (moves ++ release_of b freed) (All-append (λ m. IsMeant v e.index (record { hand = n; what = m })) moves (release_of b freed) (moves_meant e v n end steps moves o) (release_meant v n e.index b freed))
-
--- what taking a record left stands below the front of its end
-none_made : (t : Taking) (status : Status) → t.verdict ≡ Refused status → made t ≡ []
-none_made t status is = ap (λ v. made_under v (made_for (opcode (request_in t)) (place_of t) (request_in t).vmoid t.hand t.waits)) is
-
-made_none : (t : Taking) (o : Option Opcode) → opcode (request_in t) ≡ o → t.verdict ≡ Accepted → made t ≡ made_for o (place_of t) (request_in t).vmoid t.hand t.waits
-made_none t o is v = ap₂ (λ a b. made_under a (made_for b (place_of t) (request_in t).vmoid t.hand t.waits)) v is
-
-taking_below : (spec : SessionSpec) (number : ℕ) (h h' : List MemEntry) (t : Taking) (w : Work) (end : RecordEnd) → IsPrefix h h' → IsJudged spec.part number h t → t.verdict ≡ verdict_of w → IsFor (opcode (request_in t)) w → IsPastBuffers w end h'
-    → (k : ℕ) → k < length (made t) → t.seen + k < end.memory_front
-taking_below spec number h h' t (work.Refuse status) end b j v is past k less = absurd (let none = ap length (none_made t status v) in omega arith)
-taking_below spec number h h' t (work.Close pages) end b j v is past k less = let room = judged_room spec.part number h t j in let longer = longer_length h h' b in omega (arith, past)
-taking_below spec number h h' t work.Read end b j v is past k less = let room = judged_room spec.part number h t j in let longer = longer_length h h' b in omega (arith, past)
-taking_below spec number h h' t work.Write end b j v is past k less = let room = judged_room spec.part number h t j in let longer = longer_length h h' b in omega (arith, past)
-taking_below spec number h h' t work.Trim end b j v is past k less = absurd (let none = ap length (made_none t (Some opcode.Trim) is v) in omega arith)
-taking_below spec number h h' t work.Flush end b j v is past k less = absurd (let none = ap length (made_none t (Some opcode.Flush) is v) in omega arith)
 
 module _ (spec : SessionSpec) (n : ℕ) (pool : TableId × ℕ) (before es1 es2 es3 : List IntakeEntry) (h h' : List MemEntry) (old_s new_s : List Step) (s s' s'' : SlipSenderState) (t : Taking) (w : Work) (c : Carried) (answer : Option Slip) (kept : Bool)
     (f : Finish spec n pool before es1 es2 es3 h h' old_s new_s s s' s'' t w c answer kept) where
@@ -348,8 +260,8 @@ module _ (spec : SessionSpec) (n : ℕ) (pool : TableId × ℕ) (before es1 es2 
       here : list_any (is_landing_of (place_of t)) (own_landings n before ++ (landings closes.added ++ landing ∷ [])) ≡ true
       here = list_any-append (is_landing_of (place_of t)) (own_landings n before) (landings closes.added ++ landing ∷ [])
           ∙ (ap (λ b. list_any (is_landing_of (place_of t)) (own_landings n before) || b) (list_any-append (is_landing_of (place_of t)) (landings closes.added) (landing ∷ [])
-          ∙ (ap (λ b. list_any (is_landing_of (place_of t)) (landings closes.added) || (b || false)) (eq-eqb (place_of t) (place_of t) refl) ∙ or_true (list_any (is_landing_of (place_of t)) (landings closes.added))))
-          ∙ or_true (list_any (is_landing_of (place_of t)) (own_landings n before)))
+          ∙ (ap (λ b. list_any (is_landing_of (place_of t)) (landings closes.added) || (b || false)) (eq-eqb (place_of t) (place_of t) refl) ∙ or-true (list_any (is_landing_of (place_of t)) (landings closes.added))))
+          ∙ or-true (list_any (is_landing_of (place_of t)) (own_landings n before)))
 
       settled_here : list_all (is_settled (own_landings n before ++ (landings closes.added ++ landing ∷ []))) (t ∷ []) ≡ true
       settled_here = ap₂ (λ w b. (w || b) && true) f.waits here

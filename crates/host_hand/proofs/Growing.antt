@@ -1,8 +1,7 @@
 -- A history that grows while one maker adds to it.
-use Rattle.std.proofs.Common.{◌≡◌, ℕ, zero, suc, ◌+◌, ◌-◌, ◌≤◌, ◌<◌, Bool, true, false, eqb, cond, List, [], ◌∷◌, ◌++◌, length, Option, Some, None, refl, sym, ap, ap₂, subst, ◌∙◌, ◌⊎◌, inl, inr, arith, append_assoc, append-nil, length-append, eq-eqb}
+use Rattle.std.proofs.Common.{◌≡◌, ℕ, zero, suc, ◌+◌, ◌≤◌, ◌<◌, Bool, true, false, eqb, cond, List, [], ◌∷◌, ◌++◌, length, Some, refl, sym, ap, ap₂, subst, ◌∙◌, ◌⊎◌, inl, inr, arith, append_assoc, append-nil, length-append, eq-eqb}
 use Rattle.std.specs.List.{All, slice_get}
-use Rattle.std.proofs.lemmas.Bool.{ltb-true, ltb-false}
-use Rattle.std.proofs.lemmas.List.Elements.{All-nil, All-cons, All-append, All-head, All-tail}
+use Rattle.std.proofs.lemmas.List.Elements.{All-nil, All-head, All-tail}
 use Rattle.std.proofs.lemmas.Option.{slice_get_within}
 use mathlib.Core.List.{IsPrefix}
 use Rattle.host_turn.specs.History.{Continues, entries_of}
@@ -15,9 +14,6 @@ module _ {A : Type 0} where
   pub append_left : (xs ys zs : List A) → xs ++ ys ≡ xs ++ zs → ys ≡ zs
   append_left [] ys zs e = e
   append_left (x ∷ xs) ys zs e = append_left xs ys zs (cc e)
-
-  pub none_after : (xs ys : List A) → xs ++ ys ≡ xs → ys ≡ []
-  none_after xs ys e = append_left xs ys [] (e ∙ sym (append-nil xs))
 
   -- what stands in a list stands in each that it begins
   pub stands_append : (xs ys : List A) (p : ℕ) (x : A) → slice_get xs p ≡ Some x → slice_get (xs ++ ys) p ≡ Some x
@@ -63,14 +59,6 @@ module _ {E : Type 0} (maker : E → ℕ) (n : ℕ) where
       none (inl o) = let w = slice_get_within old p e o in omega arith
       none (inr q) = q.1
 
-  -- what held of each own entry holds once others have added theirs
-  pub own_still : (P : ℕ → E → Type 0) (old new : List E) → Continues maker n old new → EachOwn maker n P old → EachOwn maker n P new
-  own_still P old new c each p e at by = still (own_place (λ e. ⊥) [] old new p e c.0 (c.1 ∙ sym (append-nil (entries_of maker n old))) (All-nil (λ e. ⊥)) at by)
-    where
-      still : (slice_get old p ≡ Some e) ⊎ ((length old ≤ p) × ⊥) → P p e
-      still (inl o) = each p e o by
-      still (inr q) = absurd q.1
-
   -- ---- what was added
 
   pub added_nothing : (old new : List E) → Continues maker n old new → HasAdded maker n [] old new
@@ -78,9 +66,6 @@ module _ {E : Type 0} (maker : E → ℕ) (n : ℕ) where
 
   pub added_refl : (xs : List E) → HasAdded maker n [] xs xs
   added_refl xs = added_nothing xs xs (prefix_refl xs, refl)
-
-  pub added_continues : (old new : List E) → HasAdded maker n [] old new → Continues maker n old new
-  added_continues old new a = (a.begins, a.own ∙ append-nil (entries_of maker n old))
 
   pub added_turn : (added old mid new : List E) → Continues maker n old mid → new ≡ mid ++ added → All (λ e. maker e ≡ n) added → HasAdded maker n added old new
   added_turn added old mid new c is all = record {
@@ -123,10 +108,6 @@ module _ {E : Type 0} (maker : E → ℕ) (n : ℕ) where
   pub grown_continues : (front stop : ℕ) (old new : List E) → HasGrown maker n front stop [] old new → Continues maker n old new
   grown_continues front stop old new g = (g.begins, g.own ∙ append-nil (entries_of maker n old))
 
-  -- where nothing was added, any front will do
-  pub grown_none : (front stop front' stop' : ℕ) (old new : List E) → HasGrown maker n front stop [] old new → HasGrown maker n front' stop' [] old new
-  grown_none front stop front' stop' old new g = grown_nothing front' stop' old new (grown_continues front stop old new g)
-
   pub grown_refl : (front stop : ℕ) (xs : List E) → HasGrown maker n front stop [] xs xs
   grown_refl front stop xs = grown_nothing front stop xs xs (prefix_refl xs, refl)
 
@@ -146,15 +127,6 @@ module _ {E : Type 0} (maker : E → ℕ) (n : ℕ) where
       below : (p : ℕ) (e : E) → slice_get new p ≡ Some e → maker e ≡ n → length old ≤ p → (slice_get mid p ≡ Some e) ⊎ ((m : ℕ) × (p ≡ length mid + m) × (slice_get h.begins.0 m ≡ Some e)) → p < stop'
       below p e at by from (inl there) = let b = g.below p e there by from in omega arith
       below p e at by from (inr (m, is, there)) = h.below p e at by (omega arith)
-
-  -- the same, where the second is to be below a later place
-  pub grown_upto : (front stop stop' : ℕ) (a old new : List E) → stop ≤ stop' → HasGrown maker n front stop a old new → HasGrown maker n front stop' a old new
-  grown_upto front stop stop' a old new le g = record {
-    begins = g.begins;
-    own = g.own;
-    past = g.past;
-    below = λ p e at by from. let b = g.below p e at by from in omega arith;
-  }
 
   pub grown_as : (front stop : ℕ) (a b old new : List E) → a ≡ b → HasGrown maker n front stop a old new → HasGrown maker n front stop b old new
   grown_as front stop a b old new is g = subst (λ l. HasGrown maker n front stop l old new) is g

@@ -1,5 +1,5 @@
 -- A hand lets go of a buffer.
-use Rattle.std.proofs.Common.{◌≡◌, ◌⊎◌, inl, inr, ℕ, zero, suc, ◌+◌, ◌≤◌, ◌<◌, ◌==◌, Bool, true, false, cond, List, [], ◌∷◌, ◌++◌, length, take, filter_map, Option, Some, None, refl, sym, ap, ap₂, subst, ◌∙◌, arith, append_assoc, append-nil, length-append, eq-eqb}
+use Rattle.std.proofs.Common.{◌≡◌, ◌⊎◌, inl, inr, ℕ, zero, suc, ◌+◌, ◌≤◌, ◌==◌, Bool, true, false, cond, List, [], ◌∷◌, ◌++◌, length, take, Option, Some, None, refl, sym, ap, ap₂, subst, ◌∙◌, arith, append_assoc, length-append, eq-eqb}
 use Rattle.std.specs.Prelude.{IfSome, MatchOption, is_some, option_map, slice_get, sum}
 use Rattle.std.specs.List.{cons_option}
 use Rattle.std.specs.Option.{option_map_or}
@@ -7,9 +7,8 @@ use Rattle.std.proofs.lemmas.List.{take_at}
 use Rattle.std.proofs.lemmas.List.Sums.{sum_by-append}
 use Rattle.std.proofs.lemmas.Option.{same_Some}
 use Rattle.atomic_table.specs.Seated.{TableId}
-use Rattle.host_frames.specs.Seats.{SeenPages, contents, pages_pool}
+use Rattle.host_frames.specs.Seats.{SeenPages}
 use Rattle.host_model.specs.declared.memory.MemEntry.{MemEntry}
-use Rattle.host_model.specs.declared.memory.MemEvent.{MemEvent}
 use Rattle.host_model.specs.declared.memory.MemEvent.TheVariants.{Done, Release}
 use Rattle.host_model.specs.Lists.{map_after, map_with_before}
 use Rattle.host_memory.specs.Held.{Attachment, attachment_by, closer_of, page_count_of}
@@ -23,8 +22,7 @@ use Rattle.host_intake.proofs.Judging.{get_append, get_last}
 use Rattle.host_hand.specs.declared.errand.Errand.{Errand}
 use Rattle.host_hand.specs.Buffers.{HasLetGo, IsFreed, pages_freed, release_of}
 use Rattle.host_hand.specs.Frames.{pages_by, pages_in, released_by}
-use Rattle.host_hand.specs.Growth.{EachOwn}
-use Rattle.host_hand.specs.Records.{HasReleased, IsClosedBefore}
+use Rattle.host_hand.specs.Records.{IsClosedBefore}
 use Rattle.host_hand.proofs.Entered.{map_with_before_append}
 use Rattle.host_hand.proofs.Framing.{released_still}
 use Rattle.host_hand.proofs.Growing.{grown_turn, not_between}
@@ -36,12 +34,6 @@ pub done_entries : (n i v : ℕ) (freed : Option (ℕ × SeenPages)) (old new : 
     → new.entries ≡ old.entries ++ under n (Done i v ∷ release_of v freed)
 done_entries n i v None old new is = ap (λ (s : MemoryState). s.entries) is
 done_entries n i v (Some f) old new is = ap (λ (s : MemoryState). s.entries) is
-
-pub done_plan : (n i v : ℕ) (freed : Option (ℕ × SeenPages)) (old new : MemoryState)
-    → MatchOption freed (new ≡ record old { entries = old.entries ++ record { hand = n; what = Done i v } ∷ [] }) (λ _. new ≡ record old { entries = old.entries ++ record { hand = n; what = Done i v } ∷ record { hand = n; what = Release v } ∷ [] })
-    → new.plan ≡ old.plan
-done_plan n i v None old new is = ap (λ (s : MemoryState). s.plan) is
-done_plan n i v (Some f) old new is = ap (λ (s : MemoryState). s.plan) is
 
 due_closer : (b : Bool) (o : Option ℕ) (x : ℕ) → Some x ≡ cond b o None → o ≡ Some x
 due_closer true o x e = sym e
@@ -61,9 +53,6 @@ module _ (n i v : ℕ) (pool : TableId × ℕ) (size : ℕ) (mid : List MemEntry
 
   before_release : take (length (mid ++ done_entry ∷ [])) (mid ++ done_entry ∷ release_entry ∷ []) ≡ mid ++ done_entry ∷ []
   before_release = ap (take (length (mid ++ done_entry ∷ []))) (sym (append_assoc mid (done_entry ∷ []) (release_entry ∷ []))) ∙ take_at (mid ++ done_entry ∷ []) (release_entry ∷ []) (length (mid ++ done_entry ∷ [])) refl
-
-  long : length (mid ++ done_entry ∷ []) ≡ length mid + 1
-  long = length-append mid (done_entry ∷ [])
 
   released_at : slice_get (mid ++ done_entry ∷ release_entry ∷ []) (length (mid ++ done_entry ∷ [])) ≡ Some release_entry
   released_at = ap (λ l. slice_get l (length (mid ++ done_entry ∷ []))) (sym (append_assoc mid (done_entry ∷ []) (release_entry ∷ []))) ∙ get_last (mid ++ done_entry ∷ []) release_entry

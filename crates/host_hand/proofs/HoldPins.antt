@@ -1,5 +1,5 @@
 -- A buffer that a record has pinned is still pinned, whatever others add to the history.
-use Rattle.std.proofs.Common.{◌≡◌, ℕ, ◌+◌, ◌≤◌, ◌==◌, Bool, true, false, not, ◌||◌, ◌&&◌, cond, List, [], ◌∷◌, ◌++◌, length, map, filter, filter_map, Option, Some, None, refl, sym, ap, ap₂, subst, ◌∙◌, arith, eq-eqb, ltb-true}
+use Rattle.std.proofs.Common.{◌≡◌, ℕ, ◌+◌, ◌≤◌, ◌==◌, Bool, true, false, not, ◌||◌, ◌&&◌, cond, List, [], ◌∷◌, ◌++◌, length, filter, filter_map, Option, Some, None, refl, sym, ap, ap₂, subst, ◌∙◌, arith, eq-eqb, ltb-true}
 use Rattle.std.specs.Prelude.{◌<◌, nat_lt, slice_get}
 use Rattle.std.specs.List.{All, list_all, list_any}
 use Rattle.std.specs.Option.{option_map_or}
@@ -13,7 +13,7 @@ use Rattle.host_model.specs.declared.memory.MemEvent.TheVariants.{Pin, Done}
 use Rattle.host_model.specs.Lists.{count}
 use Rattle.host_memory.specs.Held.{Attachment, attachment_by, attachment_of, is_block_of, page_count_of}
 use Rattle.host_memory.specs.Numbers.{is_by_its_hand, is_hand_of}
-use Rattle.host_memory.specs.Pins.{is_done_for, is_left, is_pin_by, is_pin_for, is_pinned_by, pins_left}
+use Rattle.host_memory.specs.Pins.{is_done_for, is_left, is_pin_by, is_pin_for, is_pinned_by}
 use Rattle.host_memory.specs.State.{events}
 use Rattle.host_memory.proofs.Carrying.{pin_for}
 use Rattle.host_memory.proofs.Pinning.{some_counted}

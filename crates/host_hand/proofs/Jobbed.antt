@@ -1,7 +1,7 @@
 -- What the next record is to the hand that takes it.
-use Rattle.std.proofs.Common.{◌≡◌, ℕ, zero, suc, ◌+◌, ◌-◌, ◌≤◌, ◌<◌, Bool, true, false, not, ◌&&◌, ◌||◌, ◌==◌, nat_le, cond, IsTrue, List, [], ◌∷◌, ◌++◌, length, map, filter_map, take, drop, Option, Some, None, refl, sym, ap, ap₂, subst, ◌∙◌, arith, lit<, eq-eqb}
-use Rattle.std.specs.Prelude.{IsSome, MatchOption, is_none, is_some}
-use Rattle.std.specs.Option.{ForSome}
+use Rattle.std.proofs.Common.{◌≡◌, ℕ, ◌+◌, ◌-◌, ◌≤◌, Bool, true, false, not, ◌&&◌, ◌||◌, nat_le, cond, List, [], ◌∷◌, ◌++◌, length, take, drop, Option, Some, None, refl, sym, ap, ap₂, subst, ◌∙◌, arith, lit<, eq-eqb}
+use Rattle.std.proofs.Math.Bool.{or-true}
+use Rattle.std.specs.Prelude.{IsSome, MatchOption, is_none}
 use Rattle.std.specs.List.{list_any}
 use Rattle.std.proofs.lemmas.Bool.{leb-true}
 use Rattle.std.proofs.lemmas.List.{map-append, take-append-drop}
@@ -12,19 +12,18 @@ use Rattle.host_frames.specs.Seats.{SeenPages, contents, pages_pool}
 use Rattle.host_group.specs.declared.seat.CellSeat.{CellSeat}
 use Rattle.host_group.specs.Seats.{seat_cells}
 use Rattle.host_intake.specs.declared.entry.IntakeEntry.{IntakeEntry}
-use Rattle.host_intake.specs.declared.entry.Phase.{Phase}
-use Rattle.host_intake.specs.declared.entry.Phase.TheVariants.{Running, Draining, Aborted, Closed}
-use Rattle.host_intake.specs.Admissions.{AreBlocksSeen, ArePagesClosed, HasPages, HasTaken, IsAdmitted, IsRefused, entry_for}
+use Rattle.host_intake.specs.declared.entry.Phase.TheVariants.{Running}
+use Rattle.host_intake.specs.Admissions.{ArePagesClosed, HasPages, HasTaken, IsAdmitted, IsRefused, entry_for}
 use Rattle.host_intake.specs.Entries.{Taking, place_of, request_in, takings}
 use Rattle.host_intake.specs.Ledgers.{is_shut}
 use Rattle.host_intake.specs.Rights.{HasRight}
 use Rattle.host_intake.specs.State.{IntakeState, MemorySeat}
-use Rattle.host_intake.specs.Takings.{IsJudged, judged_on, left_by, made, made_for, made_under, under}
-use Rattle.host_intake.specs.Told.{is_over, phase_in, turn_of, turns}
+use Rattle.host_intake.specs.Takings.{IsJudged, judged_on, made, under}
+use Rattle.host_intake.specs.Told.{phase_in, turn_of}
 use Rattle.host_intake.proofs.Accepting.{all_passed}
 use Rattle.host_intake.proofs.Ledgering.{and_left, and_right}
 use Rattle.host_memory.specs.declared.limits.MemoryPlan.{MemoryPlan}
-use Rattle.host_memory.specs.Held.{is_block_of, page_count_of, standing_in}
+use Rattle.host_memory.specs.Held.{page_count_of, standing_in}
 use Rattle.host_memory.specs.PagesHeld.{ArePagesOf}
 use Rattle.host_memory.specs.Pins.{is_done_for, is_pin_by}
 use Rattle.host_memory.specs.State.{events}
@@ -48,29 +47,23 @@ use Rattle.host_rings.specs.AnswerEnds.{SlipSenderState}
 use Rattle.host_turn.specs.History.{entries_of}
 use Rattle.host_turn.specs.Seats.{fixed_part, number, seen_by}
 use Rattle.host_session.specs.declared.spec.SessionSpec.{SessionSpec}
-use Rattle.host_hand.specs.declared.errand.Errand.{Errand}
-use Rattle.host_hand.specs.declared.next.Next.{Next}
 use Rattle.host_hand.specs.declared.next.Next.TheVariants as next
 use Rattle.host_hand.specs.declared.work.Work.{Work}
 use Rattle.host_hand.specs.declared.work.Work.TheVariants as work
 use Rattle.host_hand.specs.Buffers.{IsHeld, IsOfPool}
 use Rattle.host_hand.specs.Errands.{errand_of}
 use Rattle.host_hand.specs.Frames.{is_closer, pages_of}
-use Rattle.host_hand.specs.Jobs.{HasTakenNext, IsJobOf, IsNext}
+use Rattle.host_hand.specs.Jobs.{HasTakenNext, IsNext}
 use Rattle.host_hand.specs.Visits.{CannotTake, HasNothingToPass}
 use Rattle.host_hand.specs.WorkKinds.{next_for, work_for}
 use Rattle.host_hand.specs.Works.{IsWork, pages_with, verdict_of}
+use Rattle.host_hand.proofs.Finished.{events_under}
+use Rattle.host_hand.proofs.LeftBehind.{made_as}
 
 -- ---- phases
 
 pub phase_same : (es : List IntakeEntry) (e : IntakeEntry) → turn_of e ≡ None → phase_in (es ++ e ∷ []) ≡ phase_in es
 phase_same es e is = ap (last Running) (filter_map_skip turn_of es e is)
-
-pub not_shut : (p : Phase) → is_over p ≡ false → is_shut p ≡ false
-not_shut Running e = refl
-not_shut Draining e = refl
-not_shut Aborted e = refl
-not_shut Closed e = e
 
 -- ---- what an accepted record is
 
@@ -119,14 +112,6 @@ some_waits v c true is close e = absurd (let f : true ≡ false = e ∙ (ap (λ 
 
 -- ---- what taking it left
 
-events_under : (n : ℕ) (ms : List MemEvent) → events (under n ms) ≡ ms
-events_under n [] = refl
-events_under n (m ∷ ms) = ap (λ l. m ∷ l) (events_under n ms)
-
-or_true : (a : Bool) → (a || true) ≡ true
-or_true true = refl
-or_true false = refl
-
 any_left : (p : MemEvent → Bool) (s m num : ℕ) (h : List MemEntry) (ms : List MemEvent) → take m (drop s h) ≡ under num ms → list_any p ms ≡ true → list_any p (events h) ≡ true
 any_left p s m num h ms is found =
     ap (λ l. list_any p (events l)) (sym (take-append-drop s h) ∙ ap (λ l. take s h ++ l) (sym (take-append-drop m (drop s h))))
@@ -134,13 +119,10 @@ any_left p s m num h ms is found =
     ∙ (list_any-append p (events (take s h)) (events (take m (drop s h)) ++ events (drop m (drop s h)))
     ∙ (ap (λ b. list_any p (events (take s h)) || b) (list_any-append p (events (take m (drop s h))) (events (drop m (drop s h)))
     ∙ ap (λ b. b || list_any p (events (drop m (drop s h)))) (ap (λ l. list_any p (events l)) is ∙ (ap (list_any p) (events_under num ms) ∙ found)))
-    ∙ or_true (list_any p (events (take s h))))))
+    ∙ or-true (list_any p (events (take s h))))))
 
 pin_is : (hand i v : ℕ) → list_any (is_pin_by hand i v) (Pin i v hand ∷ []) ≡ true
 pin_is hand i v = ap (λ b. b || false) (ap₂ (λ a b. a && b) (ap₂ (λ a b. a && b) (eq-eqb hand hand refl) (eq-eqb i i refl)) (eq-eqb v v refl))
-
-made_as : (t : Taking) (o : Option Opcode) → opcode (request_in t) ≡ o → t.verdict ≡ Accepted → made t ≡ made_for o (place_of t) (request_in t).vmoid t.hand t.waits
-made_as t o is v = ap₂ (λ a b. made_under a (made_for b (place_of t) (request_in t).vmoid t.hand t.waits)) v is
 
 -- ---- the job
 

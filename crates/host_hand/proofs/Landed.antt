@@ -1,7 +1,7 @@
 -- That a record may land: it is in flight, its right was settled with its end, and its answer is the one owed.
-use Rattle.std.proofs.Common.{◌≡◌, ◌≢◌, ◌⊎◌, inl, inr, ℕ, zero, suc, ◌+◌, ◌<◌, ◌==◌, Bool, true, false, not, ◌&&◌, ◌||◌, cond, nat_lt, IsTrue, List, [], ◌∷◌, ◌++◌, length, Option, Some, None, MatchOption, refl, sym, ap, ap₂, subst, ◌∙◌, arith, append_assoc, append-nil, length-append, eq-eqb}
+use Rattle.std.proofs.Common.{◌≡◌, ◌≢◌, ◌⊎◌, inl, inr, ℕ, zero, suc, ◌<◌, ◌==◌, Bool, true, false, ◌||◌, nat_lt, List, [], ◌∷◌, ◌++◌, length, Option, Some, None, MatchOption, refl, sym, ap, subst, ◌∙◌, arith, append_assoc, append-nil, length-append, eq-eqb}
 use Rattle.std.specs.Prelude.{slice_get, unwrap_or}
-use Rattle.std.specs.List.{All, list_any}
+use Rattle.std.specs.List.{list_any}
 use Rattle.std.specs.Option.{option_map_or}
 use Rattle.std.proofs.lemmas.Bool.{ltb-true}
 use Rattle.std.proofs.lemmas.Bool.Decides.{eqb_tells}
@@ -16,10 +16,9 @@ use Rattle.host_model.specs.Log.{request_at}
 use Rattle.host_group.specs.declared.seat.CellSeat.{CellSeat}
 use Rattle.host_group.specs.Seats.{IsRightOf, row}
 use Rattle.host_rings.specs.declared.envelope.Envelope.{Envelope}
-use Rattle.host_rings.specs.declared.slip.Slip.{Slip}
 use Rattle.host_record.specs.declared.status.Status.TheVariants as status
 use Rattle.host_rings.specs.AnswerEnds.{SlipSenderState}
-use Rattle.host_turn.specs.History.{Continues, entries_of}
+use Rattle.host_turn.specs.History.{Continues}
 use Rattle.host_turn.proofs.Histories.{prefix_trans}
 use Rattle.host_intake.specs.declared.entry.IntakeEntry.{IntakeEntry}
 use Rattle.host_intake.specs.declared.entry.IntakeEntry.TheVariants.{Landed}
@@ -28,20 +27,19 @@ use Rattle.host_intake.specs.declared.waiting.Waiting.{Waiting}
 use Rattle.host_intake.specs.Answers.{answer_owed}
 use Rattle.host_intake.specs.Entries.{Landing, Taking, is_landing_of, landings, maker_of, place_of, request_in, requests_of, taking_of, takings}
 use Rattle.host_intake.specs.Members.{is_lander, member_at}
-use Rattle.host_intake.specs.Rights.{AreSettled, HasRight, IsSettled}
+use Rattle.host_intake.specs.Rights.{AreSettled, HasRight}
 use Rattle.host_intake.specs.declared.entry.Phase.{Phase}
 use Rattle.host_intake.specs.declared.entry.Phase.TheVariants.{Running, Draining, Aborted, Closed}
 use Rattle.host_intake.specs.Intaken.{IsIntake}
 use Rattle.host_intake.specs.Ledgers.{is_shut}
 use Rattle.host_intake.specs.State.{IntakeState}
-use Rattle.host_intake.specs.Told.{is_flying, is_open, is_out, phase_in}
+use Rattle.host_intake.specs.Told.{is_flying, is_open, phase_in}
 use Rattle.host_intake.proofs.Counting.{count_cut}
 use Rattle.host_intake.proofs.Ledgering.{and_left, and_right}
 use Rattle.host_intake.specs.Waits.{AreWaiting, IsOfTaking, IsWaiting, is_waiting_at}
 use Rattle.host_intake.proofs.Admitting.{member_same}
 use Rattle.host_intake.proofs.Membering.{member_index}
-use Rattle.host_hand.specs.Ends.{HasLandedClose, HasLandedCloseInTurn, HasRightTo, IsEndOf, IsInFlightBy, WasUsed, slips_pushed, with_slips}
-use Rattle.host_hand.specs.Kept.{own_landings}
+use Rattle.host_hand.specs.Ends.{HasLandedClose, HasLandedCloseInTurn, HasRightTo, IsInFlightBy, WasUsed, slips_pushed, with_slips}
 use Rattle.host_hand.proofs.Entered.{taken_longer, taking_longer}
 use Rattle.host_hand.proofs.Growing.{added_turn}
 

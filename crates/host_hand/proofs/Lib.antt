@@ -3,6 +3,8 @@ pub mod Entered
 pub mod Framing
 pub mod Endings
 pub mod Keeping
+pub mod FreedCloses
+pub mod LeftBehind
 pub mod Finished
 pub mod Others
 pub mod Served

@@ -1,20 +1,19 @@
 -- What a hand keeps at other sessions, and at the start.
-use Rattle.std.proofs.Common.{◌≡◌, ◌≢◌, ℕ, ◌≤◌, ◌<◌, Bool, true, false, ◌&&◌, ◌==◌, cond, IsTrue, List, [], ◌∷◌, ◌++◌, length, filter, Option, Some, None, refl, sym, ap, ap₂, subst, ◌∙◌, ◌⊎◌, inl, inr, ⊎_elim, arith, append-nil, ne_eqb}
+use Rattle.std.proofs.Common.{◌≡◌, ◌≢◌, ℕ, ◌≤◌, ◌&&◌, ◌==◌, cond, List, [], ◌∷◌, ◌++◌, length, filter, Some, refl, sym, ap, subst, ◌∙◌, ◌⊎◌, inl, inr, append-nil, ne_eqb}
 use Rattle.std.specs.List.{All, slice_get}
 use Rattle.std.proofs.lemmas.List.Elements.{All-nil, All-head, All-tail, filter-append}
-use Rattle.host_block.specs.declared.range.Range.{Range}
 use Rattle.host_model.specs.declared.memory.MemEntry.{MemEntry}
 use Rattle.host_model.specs.declared.step.Step.{Step}
 use Rattle.host_model.specs.Carrying.{carries_out, outcome_of}
 use Rattle.host_rings.specs.declared.slip.Slip.{Slip}
 use Rattle.host_turn.specs.History.{entries_of}
 use Rattle.host_intake.specs.declared.entry.IntakeEntry.{IntakeEntry}
-use Rattle.host_intake.specs.Entries.{Landing, Taking, request_in}
+use Rattle.host_intake.specs.Entries.{Landing, request_in}
 use Rattle.host_session.specs.declared.spec.SessionSpec.{SessionSpec}
 use Rattle.host_hand.specs.Growth.{HasAdded}
 use Rattle.host_hand.specs.Kept.{IsAtSession, own_landings}
 use Rattle.host_session.specs.Moves.{moves_for, moves_owed}
-use Rattle.host_hand.specs.Records.{HasEnded, IsEnding, IsStepTaken, asks_in, steps_for}
+use Rattle.host_hand.specs.Records.{IsEnding, asks_in, steps_for}
 use Rattle.host_hand.proofs.Endings.{all_map, is_step_of}
 use Rattle.host_hand.proofs.Growing.{own_place}
 

@@ -1,25 +1,18 @@
 -- Where a hand stands, and what it takes from there.
-use Rattle.std.proofs.Common.{◌≡◌, ℕ, List, Some, refl, sym, ap, subst, ◌∙◌}
-use Rattle.std.specs.Option.{ForSome}
+use Rattle.std.proofs.Common.{◌≡◌, ℕ, List, Some, sym, ap, subst, ◌∙◌}
 use Rattle.atomic_table.specs.Seated.{TableId}
 use Rattle.host_memory.specs.declared.limits.MemoryPlan.{MemoryPlan}
 use Rattle.host_intake.specs.declared.entry.IntakeEntry.{IntakeEntry}
-use Rattle.host_intake.specs.declared.plan.IntakePlan.{IntakePlan}
-use Rattle.host_intake.specs.State.{IntakeState, plan_of}
 use Rattle.host_model.specs.declared.memory.MemEntry.{MemEntry}
 use Rattle.host_model.specs.declared.step.Step.{Step}
 use Rattle.host_rings.specs.declared.envelope.Envelope.{Envelope}
 use Rattle.host_rings.specs.declared.slip.Slip.{Slip}
-use Rattle.host_turn.specs.declared.book.Book.{Book}
-use Rattle.host_turn.specs.declared.seat.BookSeat.{BookSeat}
-use Rattle.host_turn.specs.Seats.{IsOutside, IsSameSeat, IsSeatOutside, book_id, fixed_part, number, seat_book}
-use Rattle.host_group.specs.Seats.{cells_id, seat_cells}
+use Rattle.host_turn.specs.Seats.{book_id}
 use Rattle.host_session.specs.declared.hand.SessionHand.{SessionHand}
 use Rattle.host_session.specs.declared.shared.SessionShared.{SessionShared}
 use Rattle.host_session.specs.declared.spec.SessionSpec.{SessionSpec}
-use Rattle.host_session.specs.Plan.{IsHand, IsSeatIn, IsShared, SessionPlan, intake_plan, memory_plan}
+use Rattle.host_session.specs.Plan.{IsHand, SessionPlan, intake_plan, memory_plan}
 use Rattle.host_session.proofs.Visiting.{seat_still}
-use Rattle.host_hand.specs.declared.errand.Errand.{Errand}
 use Rattle.host_hand.specs.declared.job.Job.{Job}
 use Rattle.host_hand.specs.Buffers.{IsAtBuffers, IsOfPool}
 use Rattle.host_hand.specs.Errands.{errand_of}
@@ -58,10 +51,6 @@ at_buffers spec n pool shared hand k =
   where
     same : (plan : MemoryPlan) → Some plan ≡ Some (memory_plan k.plan) → plan ≡ memory_plan k.plan
     same plan e = cc
-
--- what the intake that it enters is of
-pub entered_plan : (p : SessionPlan) (n : ℕ) (old new : BookSeat IntakeState IntakeEntry IntakePlan) (s : IntakeState) → IsSeatIn p.intake (intake_plan p) n old → IsSameSeat old new → fixed_part new ≡ Some (plan_of s) → plan_of s ≡ intake_plan p
-entered_plan p n old new s k same fixed = let e : Some (plan_of s) ≡ Some (intake_plan p) = sym fixed ∙ (same.3 ∙ k.plan_is) in cc
 
 -- the work of a job
 pub job_work : (cells : TableId) (spec : SessionSpec) (pool : TableId × ℕ) (n : ℕ) (es : List IntakeEntry) (h : List MemEntry) (steps : List Step) (slips : List Slip) (job : Job) → HasJob cells spec pool n es h steps slips job → IsWork (errand_of n spec job.envelope) pool h job.work

@@ -1,11 +1,11 @@
 -- What a visit leaves, put together.
-use Rattle.std.proofs.Common.{◌≡◌, ℕ, suc, ◌==◌, Option, Some, ◌+◌, ◌≤◌, Bool, true, false, not, ◌&&◌, ◌||◌, IsTrue, List, [], ◌∷◌, ◌++◌, length, filter, cond, refl, sym, ap, ap₂, subst, ◌∙◌, arith, append-nil, length-append}
+use Rattle.std.proofs.Common.{◌≡◌, ℕ, suc, ◌==◌, Option, Some, ◌+◌, Bool, true, false, not, ◌&&◌, ◌||◌, List, [], ◌∷◌, length, filter, cond, refl, sym, ap, subst, ◌∙◌, arith}
+use Rattle.std.proofs.Math.Bool.{and-false}
 use Rattle.std.specs.Prelude.{MatchOption}
-use Rattle.std.specs.List.{All, list_all, list_any, slice_get}
+use Rattle.std.specs.List.{list_any, slice_get}
 use Rattle.std.proofs.lemmas.Bool.{eqb-true}
 use Rattle.std.proofs.lemmas.Option.{slice_get_within}
-use Rattle.std.proofs.lemmas.List.Elements.{All-nil, All-cons, filter-append}
-use mathlib.Core.List.{IsPrefix}
+use Rattle.std.proofs.lemmas.List.Elements.{All-nil, All-cons}
 use Rattle.atomic_table.specs.Seated.{TableId}
 use Rattle.host_device.specs.declared.fixed.DeviceFixed.{DeviceFixed}
 use Rattle.host_frames.specs.declared.seat.PoolSeat.{PoolSeat}
@@ -33,7 +33,7 @@ use Rattle.host_rings.specs.declared.slip.Slip.{Slip}
 use Rattle.host_rings.specs.AnswerEnds.{SlipSenderState}
 use Rattle.host_turn.specs.declared.seat.BookSeat.{BookSeat}
 use Rattle.host_turn.specs.History.{Continues, entries_of}
-use Rattle.host_turn.specs.Seats.{IsOutside, IsSameSeat, seen_by}
+use Rattle.host_turn.specs.Seats.{IsOutside, seen_by}
 use Rattle.host_turn.proofs.Histories.{prefix_refl, prefix_trans}
 use Rattle.host_session.specs.declared.hand.SessionHand.{SessionHand}
 use Rattle.host_session.specs.declared.spec.SessionSpec.{SessionSpec}
@@ -41,17 +41,17 @@ use Rattle.host_session.proofs.Turning.{same_seat}
 use Rattle.host_hand.specs.declared.job.Job.{Job}
 use Rattle.host_hand.specs.declared.visit.Visit.{Visit}
 use Rattle.host_hand.specs.declared.visit.Visit.TheVariants as visit
-use Rattle.host_hand.specs.Frames.{closed_by, frames_out, is_closer, pages_of, released_by, taken_out}
+use Rattle.host_hand.specs.Frames.{frames_out, is_closer}
 use Rattle.host_hand.specs.Growth.{HasAdded}
 use Rattle.host_hand.specs.Jobs.{HasDoneBelow, HasJob, HasPassed, HasTakenNext, IsJobOf}
-use Rattle.host_hand.specs.Kept.{IsAtSession, KeepsSession, is_judged_within, own_takings}
+use Rattle.host_hand.specs.Kept.{IsAtSession, KeepsSession}
 use Rattle.host_hand.specs.Posts.{IsSameHand, KeepsClaims}
 use Rattle.host_hand.specs.Records.{IsMoveTaken, IsPastTaking, IsTakenBy}
 use Rattle.host_hand.specs.Serves.{HasServed, HasStepped}
 use Rattle.host_hand.specs.Visits.{CannotTake, HasNothingToPass, HasSeenMore, IsTold, begun_by, done_at, is_begun, is_closed}
 use Rattle.host_hand.specs.Works.{pages_with}
 use Rattle.host_hand.proofs.Framing.{closed_added, one_closer, out_still}
-use Rattle.host_hand.proofs.Growing.{added_after, added_nothing, added_refl, added_turn, longer_length}
+use Rattle.host_hand.proofs.Growing.{added_nothing, added_refl, added_turn}
 use Rattle.host_hand.proofs.Keeping.{begun_added, kept_later, kept_passed, kept_waiting, taken_added}
 
 -- ---- the hand and its seats
@@ -79,10 +79,6 @@ stepped_nothing session n seat out = record {
 
 claims_still : (pool : PoolSeat) → KeepsClaims pool pool
 claims_still pool = record { pool_is = refl; claims_are = refl; granted_is = refl }
-
-and_false : (a : Bool) → (a && false) ≡ false
-and_false true = refl
-and_false false = refl
 
 shut_closed : (p : Phase) → is_shut p ≡ true → p ≡ Closed
 shut_closed Running e = absurd (cc e)
@@ -144,7 +140,7 @@ module _ {S D : Type 0} (spec : SessionSpec) (n : ℕ) (old new : SessionHand) (
       (kept_waiting spec n before (seen_by new.intake) (seen_by new.memory) (seen_by new.memory) (seen_by seat) old.sender.pushed t k.by waits k.judged.seen k.entries (prefix_refl (seen_by new.memory), refl) found_kept))
     where
       no_closer : (t : Taking) → t.waits ≡ true → filter is_closer (t ∷ []) ≡ []
-      no_closer t w = ap (λ b. cond (is_accepted t.verdict && is_close (opcode (request_in t)) && not b) (t ∷ []) []) w ∙ ap (λ b. cond b (t ∷ []) []) (and_false (is_accepted t.verdict && is_close (opcode (request_in t))))
+      no_closer t w = ap (λ b. cond (is_accepted t.verdict && is_close (opcode (request_in t)) && not b) (t ∷ []) []) w ∙ ap (λ b. cond b (t ∷ []) []) (and-false (is_accepted t.verdict && is_close (opcode (request_in t))))
 
   -- ---- a visit that took a job
 

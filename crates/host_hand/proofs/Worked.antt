@@ -1,5 +1,5 @@
 -- A job is done: what the calls that did it come to.
-use Rattle.std.proofs.Common.{◌≡◌, ◌≢◌, ℕ, ◌+◌, ◌≤◌, ◌<◌, Bool, true, false, ◌||◌, ◌==◌, List, [], ◌∷◌, ◌++◌, length, Option, Some, None, refl, sym, ap, ap₂, subst, ◌∙◌, arith, ne_eqb}
+use Rattle.std.proofs.Common.{◌≡◌, ℕ, ◌+◌, ◌≤◌, Bool, true, false, ◌||◌, List, [], ◌∷◌, ◌++◌, length, Option, Some, None, refl, sym, ap, ap₂, subst, ◌∙◌, arith, ne_eqb}
 use Rattle.std.specs.Prelude.{MatchOption, slice_get}
 use Rattle.std.specs.List.{All, list_any}
 use Rattle.std.proofs.lemmas.List.Elements.{All-head, All-tail, filter_map-append}
@@ -14,13 +14,10 @@ use Rattle.host_intake.specs.declared.entry.IntakeEntry.TheVariants.{Landed}
 use Rattle.host_intake.specs.declared.entry.RecordEnd.{RecordEnd}
 use Rattle.host_intake.specs.Admissions.{entry_for}
 use Rattle.host_intake.specs.Answers.{answer_owed}
-use Rattle.host_intake.specs.Entries.{Landing, Taking, is_landing_of, landings, maker_of, place_of, request_in, requests_of, taking_of, takings}
-use Rattle.host_intake.specs.Rights.{AreSettled, HasRight}
+use Rattle.host_intake.specs.Entries.{Landing, Taking, is_landing_of, maker_of, place_of, request_in, taking_of, takings}
 use Rattle.host_intake.proofs.Judging.{get_last}
 use Rattle.host_model.specs.declared.memory.MemEntry.{MemEntry}
 use Rattle.host_model.specs.declared.step.Step.{Step}
-use Rattle.host_record.specs.declared.request.Request.{Request}
-use Rattle.host_rings.specs.declared.envelope.Envelope.{Envelope}
 use Rattle.host_rings.specs.declared.slip.Slip.{Slip}
 use Rattle.host_rings.specs.AnswerEnds.{SlipSenderState}
 use Rattle.host_turn.proofs.Histories.{prefix_refl}

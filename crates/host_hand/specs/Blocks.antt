@@ -1,5 +1,5 @@
 -- One block of a record, within a turn of the buffers.
-use Rattle.std.specs.Prelude.{◌≡◌, ℕ, ◌+◌, ◌<◌, ◌≤◌, ◌∷◌, [], ◌++◌, List, length}
+use Rattle.std.specs.Prelude.{◌≡◌, ℕ, ◌+◌, ◌≤◌, ◌++◌, List, length}
 use Rattle.host_block.specs.declared.op.Op.{Op}
 use Rattle.host_block.specs.declared.op.Op.TheVariants.{Read, Write, Trim, Flush}
 use Rattle.host_intake.specs.Takings.{under}

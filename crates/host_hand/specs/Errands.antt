@@ -1,10 +1,9 @@
 -- A record that a hand is to carry out.
-use Rattle.std.specs.Prelude.{◌≡◌, ℕ, ◌+◌, ◌<◌, List, map}
+use Rattle.std.specs.Prelude.{◌≡◌, ℕ, ◌+◌, List, map}
 use Rattle.host_block.specs.declared.op.Op.{Op}
 use Rattle.host_model.specs.declared.step.Step.{Step}
-use Rattle.host_model.specs.Carrying.{Ask, asked_by}
+use Rattle.host_model.specs.Carrying.{Ask}
 use Rattle.host_model.specs.Lists.{below}
-use Rattle.host_record.specs.Command.{opcode}
 use Rattle.host_record.specs.Request.{request_of}
 use Rattle.host_rings.specs.declared.envelope.Envelope.{Envelope}
 use Rattle.host_session.specs.declared.spec.SessionSpec.{SessionSpec}
@@ -22,10 +21,6 @@ errand_of hand spec envelope = record {
   memory_front = envelope.memory_front;
   request = request_of envelope.bytes;
 }
-
--- the steps that it asks for, where it is accepted
-abbrev pub asks_of : Errand → List Ask
-asks_of e = asked_by (opcode e.request) e.part e.request
 
 -- the step on its block k
 abbrev pub ask_at : Errand → Op → ℕ → Ask

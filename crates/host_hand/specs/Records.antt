@@ -1,5 +1,5 @@
 -- How the records that a hand took ended, by what the hand did for them.
-use Rattle.std.specs.Prelude.{◌≡◌, ◌⊎◌, ℕ, ◌+◌, ◌<◌, ◌≤◌, ◌==◌, ◌&&◌, false, true, List, filter, length, take, slice_get, is_some, IsTrue, Option, Some, MatchOption}
+use Rattle.std.specs.Prelude.{◌≡◌, ◌⊎◌, ℕ, ◌+◌, ◌<◌, ◌≤◌, ◌==◌, ◌&&◌, false, true, List, filter, length, take, slice_get, is_some, IsTrue, Some, MatchOption}
 use Rattle.host_block.specs.declared.range.Range.{Range}
 use Rattle.host_model.specs.declared.memory.MemEntry.{MemEntry}
 use Rattle.host_model.specs.declared.memory.MemEvent.TheVariants.{Release}

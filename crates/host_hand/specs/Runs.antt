@@ -5,7 +5,6 @@ use Rattle.host_block.specs.declared.op.Op.TheVariants.{Read, Write}
 use Rattle.host_device.specs.declared.error.StepError.{StepError}
 use Rattle.host_device.specs.declared.error.StepError.TheVariants.{Fault, Oom}
 use Rattle.host_intake.specs.Takings.{under}
-use Rattle.host_memory.specs.State.{events}
 use Rattle.host_model.specs.declared.memory.MemEntry.{MemEntry}
 use Rattle.host_model.specs.declared.memory.MemEvent.{MemEvent}
 use Rattle.host_model.specs.declared.step.Step.{Step}

@@ -6,7 +6,6 @@ use Rattle.host_intake.specs.declared.entry.IntakeEntry.TheVariants.{Took, Passe
 use Rattle.host_intake.specs.declared.entry.Phase.TheVariants.{Closed}
 use Rattle.host_intake.specs.Admissions.{FoundNone, IsGroupInFlight, load_in}
 use Rattle.host_intake.specs.Entries.{maker_of}
-use Rattle.host_intake.specs.Ledgers.{is_shut}
 use Rattle.host_intake.specs.State.{IntakeState}
 use Rattle.host_intake.specs.Told.{is_over, kept_slips, phase_in}
 use Rattle.host_model.specs.Lists.{count}

@@ -1,5 +1,5 @@
 -- What is to be done for a record that was accepted, by what it asks for.
-use Rattle.std.specs.Prelude.{◌≡◌, Option, Some, None, option_map}
+use Rattle.std.specs.Prelude.{Option, Some, None, option_map}
 use Rattle.host_frames.specs.Seats.{SeenPages}
 use Rattle.host_group.specs.declared.seat.CellSeat.{CellSeat}
 use Rattle.host_rings.specs.declared.envelope.Envelope.{Envelope}

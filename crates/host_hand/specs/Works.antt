@@ -3,7 +3,7 @@ use Rattle.std.specs.Prelude.{◌≡◌, ℕ, ◌+◌, ◌≤◌, ◌++◌, List
 use Rattle.atomic_table.specs.Seated.{TableId}
 use Rattle.host_block.specs.declared.op.Op.{Op}
 use Rattle.host_block.specs.declared.op.Op.TheVariants.{Read, Write, Trim, Flush}
-use Rattle.host_frames.specs.Seats.{SeenPages, contents, pages_pool}
+use Rattle.host_frames.specs.Seats.{contents, pages_pool}
 use Rattle.host_intake.specs.declared.entry.RecordEnd.{RecordEnd}
 use Rattle.host_intake.specs.Takings.{under}
 use Rattle.host_model.specs.declared.memory.MemEntry.{MemEntry}

@@ -1,5 +1,5 @@
 // What a hand does with the buffer of a record.
-ghost use Rattle.std.specs.Prelude.{◌≡◌, ◌≤◌, ◌<◌, ◌+◌, ◌++◌, [], ◌∷◌, length, OnOk, OnErr, IfOk, MatchOption, IsTrue};
+ghost use Rattle.std.specs.Prelude.{◌≡◌, ◌≤◌, ◌<◌, ◌+◌, ◌++◌, [], ◌∷◌, length, OnOk, OnErr, IfOk, IsTrue};
 ghost use Rattle.host_frames.specs.Seats.{pool_id};
 ghost use Rattle.host_memory.specs.Pins.{is_pinned_by};
 ghost use Rattle.host_memory.specs.Held.{is_block_of};

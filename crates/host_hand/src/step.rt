@@ -5,7 +5,7 @@ ghost use Rattle.host_block.specs.Changes.{is_read};
 ghost use Rattle.host_device.specs.Entries.{IsOnDisk, IsPiece, entry_of, entries_added};
 ghost use Rattle.host_device.specs.Seen.{fixed_of, shape_of, steps_of};
 ghost use Rattle.host_turn.specs.History.{Adds};
-ghost use Rattle.host_turn.specs.Seats.{IsSeatOutside, IsOutside, IsSameSeat, book_id, fixed_part, number, seen_by};
+ghost use Rattle.host_turn.specs.Seats.{IsSeatOutside, IsOutside, IsSameSeat, fixed_part, number, seen_by};
 ghost use Rattle.host_hand.specs.Growth.{HasGrown};
 
 use crate::errand::Errand;

@@ -30,7 +30,7 @@ use Rattle.host_intake.specs.Waits.{AreWaiting, IsOfTaking, IsWaiting, is_waitin
 use Rattle.host_intake.proofs.Counting.{count_agree, count_more, count_no_more}
 use Rattle.host_intake.proofs.Judging.{get_last, get_more}
 use Rattle.host_intake.proofs.Ledgering.{and_left, and_right}
-use Rattle.host_intake.proofs.Membering.{closings_same, member_after, member_last, member_more, members_more, request_more, get_or_last}
+use Rattle.host_intake.proofs.Membering.{closings_same, member_after, member_last, member_more, members_more, request_more}
 use Rattle.host_intake.proofs.Removing.{get_snoc}
 
 module _ (ts : List Taking) (t : Taking) where
@@ -42,9 +42,6 @@ module _ (ts : List Taking) (t : Taking) where
 
   pub request_same : (i : ℕ) → i < length ts → request_at (requests_of (ts ++ t ∷ [])) i ≡ request_at (requests_of ts) i
   request_same i h = ap (λ rs. request_at rs i) requests_more ∙ request_more (requests_of ts) (request_in t) i (let n = count_of in omega arith)
-
-  pub request_new : request_at (requests_of (ts ++ t ∷ [])) (length ts) ≡ request_in t
-  request_new = ap (λ rs. request_at rs (length ts)) requests_more ∙ (ap (λ n. request_at (requests_of ts ++ request_in t ∷ []) n) (sym count_of) ∙ get_or_last (requests_of ts) (request_in t) _)
 
   pub member_same : (i : ℕ) → i < length ts → member_at (requests_of (ts ++ t ∷ [])) i ≡ member_at (requests_of ts) i
   member_same i h = ap (λ rs. member_at rs i) requests_more ∙ member_more (requests_of ts) (request_in t) i (let n = count_of in omega arith)

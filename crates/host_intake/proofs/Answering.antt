@@ -11,9 +11,7 @@ use Rattle.atomic_table.specs.Seated.{TableId}
 use mathlib.Core.List.{IsPrefix}
 use Rattle.host_block.specs.declared.range.Range.{Range}
 use Rattle.host_frames.specs.Seats.{SeenPages}
-use Rattle.host_record.specs.declared.opcode.Opcode.{Opcode}
-use Rattle.host_record.specs.declared.opcode.Opcode.TheVariants.{Read, Write, Flush, Trim, Close}
-use Rattle.host_record.specs.Command.{opcode, is_close, is_transfer, names_buffer}
+use Rattle.host_record.specs.Command.{opcode, is_close}
 use Rattle.host_model.specs.declared.memory.MemEntry.{MemEntry}
 use Rattle.host_model.specs.declared.memory.MemEvent.{MemEvent}
 use Rattle.host_model.specs.declared.verdict.Verdict.{Verdict}
@@ -63,14 +61,6 @@ first_stays (x ∷ xs) ys block h = h
 block_later : (v block : ℕ) (h more : List MemEvent) → is_block_of v h block ≡ true → is_block_of v (h ++ more) block ≡ true
 block_later v block h more e =
     ap (λ (l : List Attachment). option_map_or (λ (a : Attachment). nat_lt block a.pages) (slice_get l 0) false) (filter_map-append (attachment_by v) h more) ∙ first_stays (filter_map (attachment_by v) h) (filter_map (attachment_by v) more) block e
-
-transfer_names : (o : Option Opcode) → is_transfer o ≡ true → names_buffer o ≡ true
-transfer_names None e = e
-transfer_names (Some Read) e = e
-transfer_names (Some Write) e = e
-transfer_names (Some Flush) e = e
-transfer_names (Some Trim) e = e
-transfer_names (Some Close) e = absurd (cc)
 
 pub blocks_seen : (part : Range) (n : ℕ) (seat : MemorySeat) (t : Taking) → IsJudged part n (seen_by seat) t → t.verdict ≡ Accepted → AreBlocksSeen seat (request_in t)
 blocks_seen part n seat t k accepted transfer b less =

@@ -8,16 +8,9 @@ use Rattle.std.proofs.lemmas.Bool.{leb-true}
 use Rattle.host_model.specs.declared.memory.MemEvent.{MemEvent}
 use Rattle.host_model.specs.declared.memory.MemEvent.TheVariants.{Attach}
 use Rattle.host_model.specs.ClientEntries.{lent_by, lent_in}
-use Rattle.host_memory.specs.Held.{Attachment, attachment_by, attachment_of, closer_of, is_before_close, is_released, pages_for, standing_in}
+use Rattle.host_memory.specs.Held.{attachment_by, attachment_of, closer_of, is_before_close, is_released, pages_for, standing_in}
 
 -- ---- one history
-
-one_step : (a : Attachment) (i : ℕ) (l : List Attachment) (m : List ℕ) → length (a ∷ l) ≤ 1 → (length l ≡ 0 → m ≡ []) → slice_get (cons_option (then_some (nat_le a.from i) a.pages) m) 0 ≡ pages_for i a
-one_step a i l m one rest = step (nat_le a.from i) (rest (omega arith))
-  where
-    step : (b : Bool) → m ≡ [] → slice_get (cons_option (then_some b a.pages) m) 0 ≡ then_some b a.pages
-    step true e = refl
-    step false e = ap (λ l. slice_get l 0) e
 
 none_lent : (h : List MemEvent) (i v : ℕ) → length (filter_map (attachment_by v) h) ≡ 0 → filter_map (lent_by i v) h ≡ []
 none_lent [] i v e = refl

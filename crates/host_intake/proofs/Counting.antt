@@ -87,12 +87,3 @@ count_more p n y = ap (λ l. count p l) (below_more n) ∙ (ap length (filter-ap
 
 pub count_no_more : (p : ℕ → Bool) (n : ℕ) → p n ≡ false → count p (below (n + 1)) ≡ count p (below n)
 count_no_more p n y = ap (λ l. count p l) (below_more n) ∙ (ap length (filter-append p (below n) (n ∷ [])) ∙ (length-append (filter p (below n)) (filter p (n ∷ [])) ∙ (ap (λ b. count p (below n) + length (cond b (n ∷ []) [])) y ∙ omega arith)))
-
--- no more pass than there are
-pub count_within : (p : ℕ → Bool) (a n : ℕ) → count p (range_with_len a n) ≤ n
-count_within p a zero = omega arith
-count_within p a (suc n) = kept (p a) a (filter p (range_with_len (a + 1) n)) n (count_within p (a + 1) n)
-  where
-    kept : (b : Bool) (x : ℕ) (l : List ℕ) (n : ℕ) → length l ≤ n → length (cond b (x ∷ l) l) ≤ suc n
-    kept true x l n h = omega arith
-    kept false x l n h = omega arith

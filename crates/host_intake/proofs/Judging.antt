@@ -137,7 +137,7 @@ own_all number (e ∷ es) = ap (λ b. cond b (record { hand = number; what = e }
     ∙ ap (λ (l : List MemEntry). record { hand = number; what = e } ∷ l) (own_all number es)
 
 -- what a taking leaves names its record, if any
-single : (x : MemEntry) (m : ℕ) (e : MemEntry) → slice_get (x ∷ []) m ≡ Some e → x ≡ e
+pub single : (x : MemEntry) (m : ℕ) (e : MemEntry) → slice_get (x ∷ []) m ≡ Some e → x ≡ e
 single x zero e at = ap (λ (o : Option MemEntry). unwrap_or o x) at
 single x (suc m) e at = absurd (cc)
 

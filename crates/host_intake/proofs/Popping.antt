@@ -1,14 +1,12 @@
 -- The next envelope is popped, and held.
-use Rattle.std.proofs.Common.{◌≡◌, ℕ, ◌+◌, ◌<◌, true, false, List, [], ◌∷◌, ◌++◌, length, map, take, Option, Some, None, MatchOption, refl, sym, ap, subst, ◌∙◌, arith, length-append}
-use Rattle.std.proofs.lemmas.List.{length-take, length-drop, length-map, take-append-le, drop-append-le, take-append-drop}
-use Rattle.std.proofs.Common.{append-nil}
+use Rattle.std.proofs.Common.{◌≡◌, ℕ, ◌+◌, ◌<◌, true, false, List, [], ◌∷◌, ◌++◌, length, Option, Some, None, MatchOption, refl, sym, ap, subst, ◌∙◌, arith, length-append}
+use Rattle.std.proofs.lemmas.List.{length-take, length-drop, length-map, take-append-le, drop-append-le}
 use Rattle.std.specs.Option.{is_some}
 use Rattle.host_rings.specs.declared.envelope.Envelope.{Envelope}
 use Rattle.host_rings.specs.RequestEnds.{TakerState, with_taken, FoundEmpty}
 use Rattle.host_intake.specs.declared.entry.IntakeEntry.{IntakeEntry}
 use Rattle.host_intake.specs.declared.entry.Phase.{Phase}
 use Rattle.host_intake.specs.declared.entry.Phase.TheVariants.{Running, Draining, Aborted, Closed}
-use Rattle.host_intake.specs.Admissions.{FoundNone}
 use Rattle.host_intake.specs.Entries.{takings, envelope_of}
 use Rattle.host_intake.specs.Intaken.{IsIntake, ArePopped, listed}
 use Rattle.host_intake.specs.Ledgers.{is_course}
@@ -29,22 +27,12 @@ not_aborted es course goes = let parts = over_parts (phase_in es) goes in aborte
 pub not_closed : (es : List IntakeEntry) → is_over (phase_in es) ≡ false → phase_in es ≡ Closed → ⊥
 not_closed es goes = (over_parts (phase_in es) goes).1
 
-empty_of : {A : Type 0} (xs : List A) → length xs ≡ 0 → xs ≡ []
-empty_of [] e = refl
-empty_of (x ∷ xs) e = absurd (omega arith)
-
 module _ (room : ℕ) (es : List IntakeEntry) (taker : TakerState) where
   -- as many were popped as were taken, and held
   pub popped_count : (held : Option Envelope) → ArePopped room es held taker → was_aborted es ≡ false → length taker.taken ≡ length (takings es) + length (listed held)
   popped_count held p ab =
       let a = ap length p.taken ∙ length-map (takings es) envelope_of in let b = length-take (length (takings es)) taker.taken in
       let c = ap length (p.left ab) in let d = length-drop (length (takings es)) taker.taken in omega arith
-
-  -- none is held: what was popped is what was taken
-  pub popped_all : ArePopped room es None taker → was_aborted es ≡ false → taker.taken ≡ map envelope_of (takings es)
-  popped_all p ab =
-      sym (take-append-drop (length (takings es)) taker.taken)
-      ∙ (ap (λ (z : List Envelope). take (length (takings es)) taker.taken ++ z) (p.left ab) ∙ (append-nil (take (length (takings es)) taker.taken) ∙ p.taken))
 
   pub popped_next : ArePopped room es None taker → was_aborted es ≡ false → (e : Envelope) → e.index ≡ length taker.taken → e.index < taker.records → ArePopped room es (Some e) (with_taken taker e)
   popped_next p ab e at few =
@@ -83,14 +71,6 @@ intake_held s k none goes held taker m = record {
     popped None taker m = subst (λ (z : TakerState). ArePopped s.room s.entries None z) (sym m.0) empty
     popped (Some e) taker m = subst (λ (z : TakerState). ArePopped s.room s.entries (Some e) z) (sym m.2)
         (popped_next s.room s.entries s.taker empty (not_aborted s.entries k.turned.course goes) e m.0 m.1)
-
--- none was found
-pub found_none : (s : IntakeState) → IsIntake s → s.held ≡ None → is_over (phase_in s.entries) ≡ false → FoundEmpty s.taker → FoundNone s
-found_none s k none goes found = record {
-  held = none;
-  popped = popped_all s.room s.entries s.taker (subst (λ (h : Option Envelope). ArePopped s.room s.entries h s.taker) none k.popped) (not_aborted s.entries k.turned.course goes);
-  empty = found;
-}
 
 -- nothing is held
 pub none_of : (o : Option Envelope) → is_some o ≡ false → o ≡ None

@@ -1,5 +1,6 @@
 -- The verdicts on the records taken are those of the definition, while no buffer was released but by a close.
 use Rattle.std.proofs.Common.{◌≡◌, ◌⊎◌, inl, inr, ℕ, zero, suc, ◌+◌, ◌≤◌, ◌<◌, ◌==◌, Bool, true, false, ◌&&◌, ◌||◌, nat_lt, cond, List, [], ◌∷◌, ◌++◌, length, filter, filter_map, get_or, map, take, drop, Option, Some, None, MatchOption, refl, sym, ap, subst, ◌∙◌, arith, eq-eqb}
+use Rattle.std.proofs.Math.Bool.{or-true}
 use Rattle.std.specs.Prelude.{slice_get, flat_map, unwrap_or, position}
 use Rattle.std.specs.Bool.{then_some}
 use Rattle.std.specs.List.{cons_option, list_any, list_all, range_with_len, zip}
@@ -9,6 +10,7 @@ use Rattle.std.proofs.lemmas.List.{map-append, take-append-drop}
 use Rattle.std.proofs.lemmas.List.Quantifiers.{position-Some}
 use Rattle.std.proofs.lemmas.Option.{slice_get-map, get_or_from_slice_get}
 use Rattle.host_block.specs.declared.range.Range.{Range}
+use Rattle.host_block.proofs.Places.{any_at, from_take, in_take}
 use Rattle.host_record.specs.declared.opcode.Opcode.{Opcode}
 use Rattle.host_record.specs.declared.opcode.Opcode.TheVariants.{Read, Write, Flush, Trim, Close}
 use Rattle.host_record.specs.declared.request.Request.{Request}
@@ -31,7 +33,7 @@ use Rattle.host_intake.specs.Entries.{Taking, place_of, request_in, requests_of}
 use Rattle.host_intake.specs.Laws.{Lends}
 use Rattle.host_intake.specs.Takings.{AreTaken, judged_on, left_by, made, made_for, made_under, under}
 use Rattle.host_intake.proofs.Attached.{standing_is_lent}
-use Rattle.host_intake.proofs.Judging.{hand_of}
+use Rattle.host_intake.proofs.Judging.{hand_of, single}
 use Rattle.host_intake.proofs.Leaving.{position_none}
 use Rattle.host_intake.proofs.Readiness.{all_at, first_found}
 
@@ -55,20 +57,12 @@ module _ {A : Type 0} where
   any_here p [] zero x e y = absurd (cc)
   any_here p [] (suc n) x e y = absurd (cc)
   any_here p (z ∷ zs) zero x e y = ap (λ b. b || list_any p zs) (ap (λ (o : Option A). p (unwrap_or o z)) e ∙ y)
-  any_here p (z ∷ zs) (suc n) x e y = ap (λ b. p z || b) (any_here p zs n x e y) ∙ or_true (p z)
-    where
-      or_true : (b : Bool) → (b || true) ≡ true
-      or_true true = refl
-      or_true false = refl
+  any_here p (z ∷ zs) (suc n) x e y = ap (λ b. p z || b) (any_here p zs n x e y) ∙ or-true (p z)
 
   any_get : (p : A → Bool) (xs : List A) (n : ℕ) (d : A) → n < length xs → p (get_or xs n d) ≡ true → list_any p xs ≡ true
   any_get p [] n d h y = absurd (omega arith)
   any_get p (z ∷ zs) zero d h y = ap (λ b. b || list_any p zs) y
-  any_get p (z ∷ zs) (suc n) d h y = ap (λ b. p z || b) (any_get p zs n d (omega arith) y) ∙ or_true (p z)
-    where
-      or_true : (b : Bool) → (b || true) ≡ true
-      or_true true = refl
-      or_true false = refl
+  any_get p (z ∷ zs) (suc n) d h y = ap (λ b. p z || b) (any_get p zs n d (omega arith) y) ∙ or-true (p z)
 
   -- an element that passes is found just where there is one
   position_any : (p : A → Bool) (xs : List A) → is_some (position p xs) ≡ list_any p xs
@@ -78,31 +72,6 @@ module _ {A : Type 0} where
       step : (o : Option ℕ) → position p (x ∷ xs) ≡ o → is_some o ≡ list_any p (x ∷ xs)
       step None e = sym (position_none p (x ∷ xs) e)
       step (Some n) e = let r = position-Some p (x ∷ xs) n x e in sym (any_get p (x ∷ xs) n x r.0 r.1)
-
-  any_at : (p : A → Bool) (xs : List A) → list_any p xs ≡ true → (n : ℕ) × (x : A) × (slice_get xs n ≡ Some x) × (p x ≡ true)
-  any_at p [] e = absurd (cc)
-  any_at p (z ∷ zs) e = step (p z) refl e (λ h. any_at p zs h)
-    where
-      step : (b : Bool) → p z ≡ b → (b || list_any p zs) ≡ true → (list_any p zs ≡ true → (n : ℕ) × (x : A) × (slice_get zs n ≡ Some x) × (p x ≡ true)) → (n : ℕ) × (x : A) × (slice_get (z ∷ zs) n ≡ Some x) × (p x ≡ true)
-      step true y e more = (0, z, refl, y)
-      step false y e more = let r = more e in (suc r.0, r.1, r.2, r.3)
-
-  get_take : (xs : List A) (n m : ℕ) (x : A) → slice_get (take n xs) m ≡ Some x → (slice_get xs m ≡ Some x) × (m < n)
-  get_take [] zero zero x e = absurd (cc)
-  get_take [] zero (suc m) x e = absurd (cc)
-  get_take [] (suc n) zero x e = absurd (cc)
-  get_take [] (suc n) (suc m) x e = absurd (cc)
-  get_take (y ∷ ys) zero zero x e = absurd (cc)
-  get_take (y ∷ ys) zero (suc m) x e = absurd (cc)
-  get_take (y ∷ ys) (suc n) zero x e = (e, omega arith)
-  get_take (y ∷ ys) (suc n) (suc m) x e = let r = get_take ys n m x e in (r.0, (let h = r.1 in omega arith))
-
-  take_get : (xs : List A) (n m : ℕ) (x : A) → m < n → slice_get xs m ≡ Some x → slice_get (take n xs) m ≡ Some x
-  take_get [] n zero x h e = absurd (cc)
-  take_get [] n (suc m) x h e = absurd (cc)
-  take_get (y ∷ ys) zero m x h e = absurd (omega arith)
-  take_get (y ∷ ys) (suc n) zero x h e = e
-  take_get (y ∷ ys) (suc n) (suc m) x h e = take_get ys n m x (omega arith) e
 
   drop_first : (xs : List A) (n m : ℕ) (x : A) (rest : List A) → take m (drop n xs) ≡ x ∷ rest → slice_get xs n ≡ Some x
   drop_first [] zero zero x rest e = absurd (let n = ap length e in omega arith)
@@ -157,10 +126,6 @@ some_then : (b : Bool) (i j : ℕ) → then_some b i ≡ Some j → (b ≡ true)
 some_then true i j e = (refl, ap (λ (o : Option ℕ). unwrap_or o i) e)
 some_then false i j e = absurd (cc)
 
-single : (x : MemEntry) (m : ℕ) (e : MemEntry) → slice_get (x ∷ []) m ≡ Some e → x ≡ e
-single x zero e at = ap (λ (o : Option MemEntry). unwrap_or o x) at
-single x (suc m) e at = absurd (cc)
-
 left_closes : (vd : Verdict) (o : Option Opcode) (i id hand : ℕ) (waits : Bool) (number v m : ℕ) (e : MemEntry) → slice_get (under number (made_under vd (made_for o i id hand waits))) m ≡ Some e → IsCloser vd o i id v e.what
 left_closes (Refused s) o i id hand waits number v zero e at = absurd (cc)
 left_closes (Refused s) o i id hand waits number v (suc m) e at = absurd (cc)
@@ -207,14 +172,14 @@ module _ (part : Range) (client number : ℕ) (whole : List MemEntry) (ts : List
     -- an earlier record that closed the buffer has left its close
     closer_there : list_any closes_it (take i ts) ≡ true → is_some (closer_of v (judged_on whole t)) ≡ true
     closer_there y =
-        let r = any_at closes_it (take i ts) y in let u = r.1 in let g = get_take ts i r.0 u r.2 in
+        let r = any_at closes_it (take i ts) y in let u = r.1 in let g = from_take ts i r.0 u r.2 in
         let c = closes_left u.verdict (opcode (request_in u)) (place_of u) (request_in u).vmoid u.hand u.waits v r.3 in
         let left = (k.judged r.0 u g.0).left ∙ ap (λ es. under number es) c.1 in
         let first = drop_first whole u.seen (length (made u)) (record { hand = number; what = mem.Close (place_of u) (request_in u).vmoid }) (under number c.0) left in
         let one = ap length c.1 in
         let before = k.rising r.0 i u t g.0 at g.1 in
         some_found (closer_by v) (take t.seen whole) u.seen (record { hand = number; what = mem.Close (place_of u) (request_in u).vmoid }) (place_of u)
-        (take_get whole t.seen u.seen _ (omega arith) first) (ap (λ b. then_some b (place_of u)) (eq-eqb (request_in u).vmoid v c.2))
+        (in_take whole t.seen u.seen _ (omega arith) first) (ap (λ b. then_some b (place_of u)) (eq-eqb (request_in u).vmoid v c.2))
 
     own : (h : ℕ) (what : MemEvent) (j : ℕ) → is_numbered client number (record { hand = h; what = what }) ≡ true → closer_by v what ≡ Some j → (h ≡ number) × (index_of what ≡ Some j)
     own h (mem.Close index id) j n y = (eqb-true h number n, ap (λ (z : ℕ). Some z) ((some_then (id == v) index j y).1))
@@ -224,7 +189,7 @@ module _ (part : Range) (client number : ℕ) (whole : List MemEntry) (ts : List
     closer_before : (j : ℕ) → closer_of v (judged_on whole t) ≡ Some j → (j < i) × (list_any closes_it (take i ts) ≡ true)
     closer_before j y =
         let f = first_found (closer_by v) (take t.seen whole) j y in let e = f.1 in
-        let w = get_take whole t.seen f.0 e f.2 in
+        let w = from_take whole t.seen f.0 e f.2 in
         let o = own e.hand e.what j (all_at (is_numbered client number) whole numbered f.0 e w.0) f.3 in
         let past = past_at f.0 j (subst (λ (z : Option ℕ). MatchOption z (Unit {0}) (λ i. MatchOption (slice_get ts i) ⊥ (λ t. t.seen ≤ f.0))) o.1 (k.order f.0 e w.0 o.0)) in
         let less : j < i = before j past.0 past.1 f.0 past.2 w.1 in
@@ -232,7 +197,7 @@ module _ (part : Range) (client number : ℕ) (whole : List MemEntry) (ts : List
         let c = in_flat (left_by number) ts m.0 e (ap (λ l. slice_get l m.0) (sym k.left) ∙ m.1) in
         let z = left_closes c.1.verdict (opcode (request_in c.1)) (place_of c.1) (request_in c.1).vmoid c.1.hand c.1.waits number v c.2 e c.4 j f.3 in
         let here = place_is c.0 c.1 c.3 in let p = z.1 in
-        (less, any_here closes_it (take i ts) c.0 c.1 (take_get ts i c.0 c.1 (omega arith) c.3) z.0)
+        (less, any_here closes_it (take i ts) c.0 c.1 (in_take ts i c.0 c.1 (omega arith) c.3) z.0)
       where
         past_at : (n j : ℕ) → MatchOption (slice_get ts j) ⊥ (λ t. t.seen ≤ n) → (u : Taking) × (slice_get ts j ≡ Some u) × (u.seen ≤ n)
         past_at n j m = found (slice_get ts j) refl m

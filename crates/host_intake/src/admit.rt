@@ -1,12 +1,9 @@
 //! The next record is taken.
-ghost use Rattle.std.specs.Prelude.{◌≡◌, ◌+◌, ◌<◌, ◌≤◌, [], ◌∷◌, ◌++◌, true, false, Some, None, length, map, MatchOption, MatchResult};
+ghost use Rattle.std.specs.Prelude.{◌≡◌, ◌+◌, ◌<◌, ◌≤◌, [], ◌∷◌, ◌++◌, true, false, Some, None, length, MatchOption, MatchResult};
 ghost use Rattle.host_record.specs.Command.{is_last};
-ghost use Rattle.host_record.specs.Request.{request_of};
 ghost use Rattle.host_model.specs.Groups.{is_member};
-ghost use Rattle.host_group.specs.Seats.{IsAdmitting, IsFewerOut, IsRight, admitted, back, cells_id, member, next, row, seat_cells, view_of};
+ghost use Rattle.host_group.specs.Seats.{IsAdmitting, IsFewerOut, admitted, back, cells_id, member, next, seat_cells, view_of};
 ghost use Rattle.host_group.specs.Steps.{IsBusy};
-ghost use Rattle.host_group.specs.Views.{closings, fresh_row};
-ghost use Rattle.host_rings.specs.RequestEnds.{FoundEmpty};
 ghost use Rattle.host_turn.specs.History.{Adds, Continues};
 ghost use Rattle.host_turn.specs.Seats.{IsOutside, IsSameSeat, IsSeatOutside, book_id, number, seat_book, seen_by};
 ghost use Rattle.host_intake.specs.declared.entry.IntakeEntry.TheVariants.{Took};

@@ -1,7 +1,6 @@
 //! Records are judged, and pin or close their buffer.
-ghost use Rattle.std.specs.Prelude.{◌≡◌, ◌+◌, ◌<◌, ◌≤◌, [], ◌∷◌, ◌++◌, ◌==◌, ◌&&◌, not, length, MatchOption, is_some};
+ghost use Rattle.std.specs.Prelude.{◌≡◌, ◌+◌, ◌<◌, [], ◌∷◌, ◌++◌, ◌==◌, ◌&&◌, not, length, MatchOption, is_some};
 ghost use Rattle.host_record.specs.Command.{opcode, is_close};
-ghost use Rattle.host_record.specs.Request.{request_of};
 ghost use Rattle.host_model.specs.Verdict.{judged, is_accepted};
 ghost use Rattle.host_memory.specs.Held.{page_count_of, standing_in};
 ghost use Rattle.host_memory.specs.PagesHeld.{ArePagesOf};
@@ -10,7 +9,7 @@ ghost use Rattle.host_memory.specs.State.{admissions_of, history, size_of};
 ghost use Rattle.host_turn.specs.History.{Adds};
 ghost use Rattle.host_turn.specs.Seats.{IsSameSeat, IsSeatOutside, IsOutside, number, seen_by};
 ghost use Rattle.host_intake.specs.Admissions.{HasPages};
-ghost use Rattle.host_intake.specs.Entries.{Taking, takings};
+ghost use Rattle.host_intake.specs.Entries.{takings};
 ghost use Rattle.host_intake.specs.State.{IsForAdmissions};
 ghost use Rattle.host_intake.specs.Takings.{AreTaken, made_for, made_under, under};
 ghost use Rattle.host_intake.specs.Touching.{IsReadyFor};

@@ -3,7 +3,7 @@ ghost use Rattle.std.specs.Prelude.{◌≡◌, ◌+◌, ◌<◌, ◌≤◌, [], 
 ghost use Rattle.std.specs.VecDeque.{deque_capacity, deque_len};
 ghost use Rattle.host_intake.specs.declared.entry.IntakeEntry.TheVariants.{Took, Landed, Passed, Turned};
 ghost use Rattle.host_intake.specs.declared.entry.Phase.TheVariants.{Aborted, Closed};
-ghost use Rattle.host_intake.specs.Entries.{takings, landings};
+ghost use Rattle.host_intake.specs.Entries.{takings};
 ghost use Rattle.host_intake.specs.Ledgers.{is_course, is_taken_open, slips_to_keep};
 ghost use Rattle.host_model.specs.Lists.{all_with_before};
 ghost use Rattle.host_intake.specs.Told.{is_aborted, phase_in, turns, flights_in, kept_slips, is_flying, memory_front_in, rows_in};

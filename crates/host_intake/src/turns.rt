@@ -1,5 +1,5 @@
 //! How a session ends.
-ghost use Rattle.std.specs.Prelude.{◌≡◌, ◌+◌, [], ◌∷◌, ◌++◌, true, None, length, IsTrue};
+ghost use Rattle.std.specs.Prelude.{◌≡◌, ◌+◌, [], ◌∷◌, ◌++◌, None, length, IsTrue};
 ghost use Rattle.host_turn.specs.History.{Adds};
 ghost use Rattle.host_turn.specs.Seats.{number};
 ghost use Rattle.host_intake.specs.declared.entry.IntakeEntry.TheVariants.{Turned};

@@ -1,6 +1,6 @@
 // A disk of blocks.
 ghost use Rattle.std.specs.Prelude.{◌≡◌, ◌<◌, ℕ, Bool, List, length, IsTrue};
-ghost use Rattle.host_block.specs.Disk.{DiskState, DiskCall, read, write, sync, Leads, IsOfSize};
+ghost use Rattle.host_block.specs.Disk.{DiskState, read, write, sync, Leads, IsOfSize};
 ghost use Rattle.host_io.specs.Disks.{Shape, Calls, read_counted, write_counted, sync_counted, outcome_of, Attaches, Reads};
 ghost use Rattle.host_io.specs.declared.counts.Counts.{Counts};
 

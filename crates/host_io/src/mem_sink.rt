@@ -57,7 +57,7 @@ impl MemSink {
 }
 
 impl Sink for MemSink {
-    ghost use Rattle.std.specs.Prelude.{◌≡◌, ◌+◌, ◌↔◌, true, min, length, IsErr, IfOk, Contains};
+    ghost use Rattle.std.specs.Prelude.{◌≡◌, ◌+◌, ◌↔◌, true, min, length, IsErr, IfOk};
     ghost use Rattle.host_io.specs.Causes.{HasCause, faults_after, next_count};
     ghost use Rattle.host_io.specs.MemSink.{sink_appended, sink_faults, sink_room, sink_fails, sink_calls, FailsToPut};
     ghost use Rattle.host_io.specs.Streams.{PutsSome, Puts};

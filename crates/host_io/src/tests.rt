@@ -1,4 +1,4 @@
-ghost use Rattle.std.specs.Prelude.{◌≡◌, ◌<◌, length};
+ghost use Rattle.std.specs.Prelude.{◌≡◌, ◌<◌};
 
 use crate::{
     Counts, Disk, DiskError, MemDisk, MemSink, MemSource, Sink, SinkFailed, Source, SourceFailed,

@@ -4,7 +4,7 @@ ghost use Rattle.host_gpt.specs.Entries.{AreUsed};
 ghost use Rattle.host_io.specs.Causes.{HasCause};
 ghost use Rattle.host_list.specs.Text.{disk_line, head_text, list_text};
 ghost use Rattle.host_part.specs.Served.{layout_of};
-ghost use Rattle.host_report.specs.Text.{end_line, image_line, table_line, which_word};
+ghost use Rattle.host_report.specs.Text.{image_line, table_line, which_word};
 ghost use Rattle.host_text.specs.Printed.{printed};
 ghost use Rattle.host_text.specs.Writing.{Puts, Writes};
 

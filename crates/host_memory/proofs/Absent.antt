@@ -1,23 +1,15 @@
 -- A buffer without entries.
-use Rattle.std.proofs.Common.{◌≡◌, ℕ, ◌==◌, Bool, true, false, if◌then◌else◌, List, Option, Some, None, refl, ap}
+use Rattle.std.proofs.Common.{◌≡◌, ℕ, ◌==◌, Bool, true, false, if◌then◌else◌, List, Option, None, refl, ap}
 use Rattle.std.specs.Prelude.{slice_get}
 use Rattle.std.specs.List.{list_any}
 use Rattle.std.specs.Option.{option_map_or}
 use Rattle.host_model.specs.declared.memory.MemEvent.{MemEvent}
 use Rattle.host_model.specs.Releases.{buffer_of}
-use Rattle.host_model.specs.Verdict.{is_within}
-use Rattle.host_memory.specs.Held.{Attachment, attachment_by, attachment_of, closer_of, has_blocks, is_before_close, is_released, pages_for, standing_in}
+use Rattle.host_memory.specs.Held.{Attachment, attachment_by, attachment_of, closer_of, is_before_close, is_released, pages_for, standing_in}
 use Rattle.host_memory.proofs.Telling.{leaves_alone, no_map}
 
 pub absent_attachment : (v : ℕ) (h : List MemEvent) → list_any (λ e. buffer_of e == v) h ≡ false → attachment_of v h ≡ None
 absent_attachment v h n = ap (λ l. slice_get l 0) (no_map v (attachment_by v) (λ e s. (leaves_alone 0 v e s).attachment) h n)
-
-blocks_step : (z : Bool) (a : Option Attachment) (block cnt : ℕ) → a ≡ None → option_map_or (is_within block cnt) (if z then None else option_map_or (λ x. Some x.pages) a None) false ≡ false
-blocks_step true a block cnt e = refl
-blocks_step false a block cnt e = ap (λ o. option_map_or (is_within block cnt) (option_map_or (λ x. Some x.pages) o None) false) e
-
-pub absent_blocks : (v : ℕ) (h : List MemEvent) (block cnt : ℕ) → attachment_of v h ≡ None → has_blocks v h block cnt ≡ false
-absent_blocks v h block cnt e = blocks_step (is_released v h) (attachment_of v h) block cnt e
 
 standing_step : (z y : Bool) (a : Option Attachment) (i : ℕ) → a ≡ None → (if z then None else (if y then option_map_or (pages_for i) a None else None)) ≡ None
 standing_step true y a i e = refl

@@ -29,9 +29,6 @@ use Rattle.host_memory.proofs.Replacing.{set_same}
 use Rattle.host_memory.proofs.Telling.{LeavesAlone, told_landed, told_still}
 
 module _ (limits : MemoryLimits) (pool : TableId × ℕ) (l : WithRoom MemEntry) (moves left : ℕ) (bs : List Buffer) (k : IsKept limits pool l moves left bs) where
-  pub move_fits : 1 ≤ moves → length l.items < l.room
-  move_fits one = let used = k.room.used in let pins = k.room.pinned in let room = k.room.room in omega arith
-
   module _ (i : ℕ) (b : Buffer) (at : slice_get bs i ≡ Some b) (still : is_released (suc i) (events l.items) ≡ false) where
     pub kept_landed : (hand index j block : ℕ) (ws : List ℕ) (q : Option SeenPages) → 1 ≤ moves → list_any (is_pin_by hand index (suc i)) (events l.items) ≡ true → outline q ≡ outline b.pages → contents_held q ≡ set (contents_held b.pages) block ws → block < length (contents_held b.pages) → length ws ≡ limits.size
         → IsKept limits pool (record l { items = l.items ++ record { hand = hand; what = Land index j (suc i) block ws } ∷ [] }) (moves - 1) left (set bs i (record b { pages = q }))

@@ -1,5 +1,6 @@
 -- Lists, tests and pages once an entry was added at the end.
 use Rattle.std.proofs.Common.{◌≡◌, ℕ, ◌+◌, Bool, true, false, ◌||◌, cond, List, [], ◌∷◌, ◌++◌, length, filter, filter_map, replicate, Option, Some, None, refl, ap, ◌∙◌, length-append, append-nil}
+use Rattle.std.proofs.Math.Bool.{or-true}
 use Rattle.std.specs.List.{list_any, cons_option, last_or}
 use Rattle.std.specs.Prelude.{unwrap_or}
 use Rattle.std.proofs.lemmas.List.{map-append}
@@ -10,10 +11,6 @@ use Rattle.host_model.specs.Lists.{count, last}
 use Rattle.host_model.specs.Pages.{page_at, put_by}
 use Rattle.host_memory.specs.State.{events}
 
-or_true : (b : Bool) → (b || true) ≡ true
-or_true true = refl
-or_true false = refl
-
 module _ {A : Type 0} where
   pub any_skip : (p : A → Bool) (xs : List A) (x : A) → p x ≡ false → list_any p (xs ++ x ∷ []) ≡ list_any p xs
   any_skip p [] x e = ap (λ b. b || false) e
@@ -21,7 +18,7 @@ module _ {A : Type 0} where
 
   pub any_add : (p : A → Bool) (xs : List A) (x : A) → p x ≡ true → list_any p (xs ++ x ∷ []) ≡ true
   any_add p [] x e = ap (λ b. b || false) e
-  any_add p (y ∷ ys) x e = ap (λ b. p y || b) (any_add p ys x e) ∙ or_true (p y)
+  any_add p (y ∷ ys) x e = ap (λ b. p y || b) (any_add p ys x e) ∙ or-true (p y)
 
   pub filter_skip : (p : A → Bool) (xs : List A) (x : A) → p x ≡ false → filter p (xs ++ x ∷ []) ≡ filter p xs
   filter_skip p xs x e = filter-append p xs (x ∷ []) ∙ ap (λ b. filter p xs ++ cond b (x ∷ []) []) e ∙ append-nil (filter p xs)

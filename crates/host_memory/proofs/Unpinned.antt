@@ -47,10 +47,6 @@ module _ {A : Type 0} where
   length_cut [] x ys = omega arith
   length_cut (z ∷ zs) x ys = let more = length_cut zs x ys in omega arith
 
-  -- no more with a test on top
-  count_any : (p : A → Bool) (xs : List A) → count p xs ≤ 1 → 1 ≤ count p xs → count p xs ≡ 1
-  count_any p xs few some = omega arith
-
 module _ (size : ℕ) (h : List MemEvent) (s : IsSound size h) (hand index v : ℕ) (still : is_released v h ≡ false) (pinned : is_pinned_by hand index v h ≡ true) where
   few : count (is_pin_for index) (pins_left h) ≤ 1
   few = let part = count_le (is_pin_for index) (is_left h) h in let one = s.one_pin index in omega arith

@@ -1,5 +1,5 @@
 //! What the client does: it attaches buffers, fills them and looks at them.
-ghost use Rattle.std.specs.Prelude.{◌≡◌, ◌↔◌, ℕ, ◌+◌, ◌*◌, ◌<◌, ◌≤◌, [], ◌∷◌, ◌++◌, true, false, length, replicate, Some, None, IsTrue, MatchOption};
+ghost use Rattle.std.specs.Prelude.{◌≡◌, ◌+◌, ◌*◌, ◌<◌, ◌≤◌, [], ◌∷◌, ◌++◌, true, false, length, replicate, Some, None, IsTrue, MatchOption};
 ghost use Rattle.host_frames.specs.Seats.{contents, pages_pool};
 ghost use Rattle.host_model.specs.declared.memory.MemEvent.TheVariants.{Attach, Fill, Show};
 ghost use Rattle.host_model.specs.Pages.{found_by};

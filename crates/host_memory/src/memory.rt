@@ -1,5 +1,5 @@
 //! The buffers of a session as a state with a history.
-ghost use Rattle.std.specs.Prelude.{◌≡◌, ℕ, ◌+◌, ◌≤◌, [], filter_map, length, max, IfOk, IsTrue, OnOk, OnErr};
+ghost use Rattle.std.specs.Prelude.{◌≡◌, ℕ, ◌≤◌, [], filter_map, length, max, IfOk, IsTrue, OnOk, OnErr};
 ghost use Rattle.std.specs.List.{list_all};
 ghost use Rattle.host_frames.specs.Seats.{page_size, pool_id};
 ghost use Rattle.host_memory.specs.Entries.{given_count};

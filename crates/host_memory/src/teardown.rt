@@ -1,6 +1,5 @@
 //! How pages leave, and how a memory ends.
 ghost use Rattle.std.specs.Prelude.{◌≡◌, ℕ, [], ◌∷◌, ◌++◌, true, length, Some, None, IsTrue, MatchOption};
-ghost use Rattle.host_frames.specs.Seats.{contents};
 ghost use Rattle.host_model.specs.Lists.{all_with_before, count};
 ghost use Rattle.host_model.specs.Pages.{lifts_page};
 ghost use Rattle.host_model.specs.Releases.{comes_before_release, pins_before_close, is_release_of};

@@ -1,5 +1,6 @@
 -- The account of a hand with its client, as the log grows.
 use Rattle.std.proofs.Common.{◌≡◌, ℕ, ◌+◌, ◌≤◌, Bool, true, false, ◌||◌, cond, List, [], ◌∷◌, ◌++◌, Option, Some, None, Result, Ok, Err, refl, sym, ap, subst, ◌∙◌, inl, inr, arith}
+use Rattle.std.proofs.Math.Bool.{or-false}
 use Rattle.std.specs.Prelude.{sum, ◌==◌, is_some}
 use Rattle.std.specs.List.{cons_option, list_any, sum_by}
 use Rattle.std.proofs.lemmas.List.Sums.{sum_by-append, sum_by-cons, sum_by_push}
@@ -103,10 +104,6 @@ any-append p (x ∷ xs) ys = ap (λ b. p x || b) (any-append p xs ys) ∙ or_ass
     or_assoc true b c = refl
     or_assoc false b c = refl
 
-or_nothing : (b : Bool) → (b || false) ≡ b
-or_nothing true = refl
-or_nothing false = refl
-
 pub silent_then : (xs ys : List Event) → AreSilent xs → AreSilent ys → AreSilent (xs ++ ys)
 silent_then xs ys a b = record {
   attached = let t = sum_by-append pages_attached_by xs ys in omega (arith, t, a.attached, b.attached);
@@ -120,7 +117,7 @@ pub silent_more : (log es : List Event) → AreSilent es
 silent_more log es s = (
   let a = sum_by-append pages_attached_by log es in omega (arith, a, s.attached),
   let w = sum_by-append pages_asked_by log es in omega (arith, w, s.wanted),
-  any-append is_short_of_frames log es ∙ ap (λ b. list_any is_short_of_frames log || b) s.short ∙ or_nothing (list_any is_short_of_frames log),
+  any-append is_short_of_frames log es ∙ ap (λ b. list_any is_short_of_frames log || b) s.short ∙ or-false (list_any is_short_of_frames log),
 )
 
 -- a client whose log grew by such events, and that released nothing before and after
@@ -137,7 +134,7 @@ as_before old new es log_is s released =
 pub as_before_trans : (a b c : ClientState) → IsAsBefore a b → IsAsBefore b c → IsAsBefore a c
 as_before_trans a b c f s = record { attached = s.attached ∙ f.attached; wanted = s.wanted ∙ f.wanted; short = s.short ∙ f.short; released = s.released ∙ f.released }
 
-or_left : (b : Bool) → (b || false) ≡ true → b ≡ true
+pub or_left : (b : Bool) → (b || false) ≡ true → b ≡ true
 or_left true h = refl
 or_left false h = cc
 

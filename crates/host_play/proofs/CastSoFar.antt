@@ -52,13 +52,6 @@ module _ {D : Type 0} {g : disk.Ghosts D} where
         made = All-append (IsMadeOf all_clients all_pieces) actors (a ∷ []) so.made (All-cons (IsMadeOf all_clients all_pieces) a [] one (All-nil (IsMadeOf all_clients all_pieces)));
       }
 
-  -- no hand is left, and no client
-  pub all_cast : (all_hands : List (Hand D g)) (all_clients : List ClientState) (all_pieces : List (Vec (List ℕ) Global)) (hands : List (Hand D g)) (clients : List ClientState) (pieces : List (Vec (List ℕ) Global)) (actors : List (Actor D g))
-      → IsCastSoFar all_hands all_clients all_pieces hands clients pieces actors → length hands ≡ 0 → (hands_in actors ≡ all_hands) × (clients_in actors ≡ all_clients)
-  all_cast all_hands all_clients all_pieces [] [] pieces actors so none = (so.hands_are, so.clients_are)
-  all_cast all_hands all_clients all_pieces [] (c ∷ clients) pieces actors so none = absurd (let e = so.enough in omega (arith, e))
-  all_cast all_hands all_clients all_pieces (h ∷ hands) clients pieces actors so none = absurd (omega arith)
-
   -- ---- taken apart
 
   -- These hands and clients came back, and these are still in the list.
@@ -82,8 +75,3 @@ module _ {D : Type 0} {g : disk.Ghosts D} where
   pub room_back : (actors actors' : List (Actor D g)) (a : Actor D g) → actors ≡ actors' ++ a ∷ [] → length (clients_in actors) ≡ length (end_in a.client) + length (clients_in actors')
   room_back actors actors' a popped =
       ap (λ (l : List (Actor D g)). length (clients_in l)) popped ∙ ap (λ (l : List ClientState). length l) (clients_snoc actors' a) ∙ length-append (end_in a.client) (clients_in actors')
-
-  pub all_back : (all_hands : List (Hand D g)) (all_clients : List ClientState) (hands : List (Hand D g)) (clients : List ClientState) (actors : List (Actor D g))
-      → AreBackSoFar all_hands all_clients hands clients actors → length actors ≡ 0 → (hands ≡ all_hands) × (clients ≡ all_clients)
-  all_back all_hands all_clients hands clients [] so none = (sym (append-nil hands) ∙ so.hands_are, sym (append-nil clients) ∙ so.clients_are)
-  all_back all_hands all_clients hands clients (a ∷ actors) so none = absurd (omega arith)

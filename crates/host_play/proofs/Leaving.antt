@@ -29,6 +29,7 @@ use Rattle.host_play.specs.declared.actor.Client.{Client}
 use Rattle.host_play.specs.Actors.{HasActed, HasPlayedPart, HasPlayedSession, IsSquareWith}
 use Rattle.host_play.specs.Casts.{AllHavePlayed, clients_in, hands_in, of_clients, told_of}
 use Rattle.host_play.proofs.Reversed.{map-filter_map, map-reverse, reverse_cons, zipped_found, zipped_map}
+use Rattle.host_play.proofs.Accounts.{or_left}
 
 -- the number that stands at a place of the numbers from n on
 number_at : (n count k x : ℕ) → slice_get (range_with_len n count) k ≡ Some x → x ≡ n + k
@@ -51,12 +52,8 @@ any_step : (p : ClientState → Bool) (x : ClientState) (cs : List ClientState) 
 any_step p x cs c more true is h = inl (ap (λ b. b || list_any p cs) is)
 any_step p x cs c more false is h = ⊎_elim (λ t. inl (ap (λ b. b || list_any p cs) is ∙ t)) (λ t. inr t) (more h)
 
-or_last : (b : Bool) → (b || false) ≡ true → b ≡ true
-or_last true h = refl
-or_last false h = cc
-
 any_snoc : (p : ClientState → Bool) (cs : List ClientState) (c : ClientState) → list_any p (cs ++ c ∷ []) ≡ true → (list_any p cs ≡ true) ⊎ (p c ≡ true)
-any_snoc p [] c h = inr (or_last (p c) h)
+any_snoc p [] c h = inr (or_left (p c) h)
 any_snoc p (x ∷ cs) c h = any_step p x cs c (λ rest. any_snoc p cs c rest) (p x) refl h
 
 module _ {D : Type 0} {g : disk.Ghosts D} where

@@ -14,7 +14,6 @@ pub mod Reporting
 pub mod Belonging
 pub mod Staging
 pub mod Saying
-pub mod Disks
 pub mod Performing
 pub mod Finding
 pub mod Parts

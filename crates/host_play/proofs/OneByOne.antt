@@ -50,11 +50,6 @@ module _ {D : Type 0} {g : disk.Ghosts D} where
 
 -- ---- the last client and its pieces are taken
 
--- there is none
-pub none_taken : (clients clients' : List ClientState) (pieces : List (Vec (List ℕ) Global)) → clients ≡ clients' ++ [] → length clients ≡ 0 → HasTakenClient clients clients' pieces pieces None
-none_taken [] clients' pieces is none = (refl, sym (append-nil clients') ∙ sym is, refl)
-none_taken (c ∷ clients) clients' pieces is none = absurd (omega arith)
-
 -- it is one of all
 pub taken_one : (all_clients clients clients' behind : List ClientState) (all_pieces pieces pieces' rest : List (Vec (List ℕ) Global)) (o : Option Client)
     → HasTakenClient clients clients' pieces pieces' o → clients ++ behind ≡ all_clients → pieces ++ rest ≡ all_pieces → length pieces ≡ length clients → IfSome o (IsOneOf all_clients all_pieces)

@@ -10,11 +10,10 @@ use Rattle.host_worker.specs.declared.hand.Hand.{Hand}
 use Rattle.host_worker.specs.declared.server.Server.{Server}
 use Rattle.host_worker.specs.Hands.{IsHandOf}
 use Rattle.script_model.specs.declared.script.ScriptLine.{ScriptLine}
-use Rattle.host_play.specs.Calls.{CanPlay, HasDone, HasHelped, IsAsBefore, MayPlay}
+use Rattle.host_play.specs.Calls.{CanPlay, HasDone, HasHelped, MayPlay}
 use Rattle.host_play.specs.Logs.{HasPlayed}
 use Rattle.host_play.specs.Opened.{HasRoomFor}
 use Rattle.host_play.specs.Pieces.{ArePieces, IsNextPiece, WasTaken, piece_length}
-use Rattle.host_play.proofs.Accounts.{square_still}
 use Rattle.host_play.proofs.Rooms.{may_play}
 use Rattle.host_play.proofs.Showing.{left_pieces, next_piece}
 use Rattle.host_play.proofs.SoFar.{played_none}
@@ -58,7 +57,3 @@ module _ {D : Type 0} {g : disk.Ghosts D} (server : Server D g) where
 
   pub helped_then : (a b c : Hand D g) (x y z : ClientState) → HasHelped server a b x y → HasHelped server b c y z → HasHelped server a c x z
   helped_then a b c x y z f s = record { hand = s.hand; number_is = s.number_is ∙ f.number_is; account = λ sq. s.account (f.account sq) }
-
-  -- its client did something without it
-  pub helped_still : (hand : Hand D g) (client client' : ClientState) → IsHandOf server hand → IsAsBefore client client' → HasHelped server hand hand client client'
-  helped_still hand client client' h same = record { hand = h; number_is = refl; account = λ sq. square_still hand client client' same sq }

@@ -1,5 +1,5 @@
 -- What is taken before the sessions begin, one session and one line after the other.
-use Rattle.std.proofs.Common.{◌≡◌, ◌⊎◌, inl, inr, ℕ, ◌+◌, ◌≤◌, ◌<◌, List, [], ◌∷◌, ◌++◌, false, cond, length, get_or, map, take, reverse, Option, Some, None, Vec, refl, sym, ap, subst, ◌∙◌, arith, append-nil, length-append}
+use Rattle.std.proofs.Common.{◌≡◌, ◌⊎◌, inl, inr, ℕ, ◌+◌, ◌≤◌, ◌<◌, List, [], ◌∷◌, ◌++◌, false, cond, length, get_or, map, take, reverse, Option, Some, None, Vec, sym, ap, subst, ◌∙◌, arith, append-nil, length-append}
 use Rattle.std.specs.declared.alloc.Global.{Global}
 use Rattle.std.specs.Prelude.{slice_get, Result, Ok, Err, is_ok, is_err}
 use Rattle.std.specs.List.{cons_option}
@@ -53,12 +53,6 @@ next_spec sessions ranges size depth k session d same less is =
     ∙ specs_more 1 plans (take k ranges) (plan_of session) (get_or ranges k d) size depth (many ∙ sym count)
     ∙ ap (λ m. specs_from 1 plans (take k ranges) size depth ++ spec_for m (plan_of session) (get_or ranges k d) size depth ∷ []) (omega (arith, count))
 
--- all of them
-pub all_specs : (sessions : List SessionScript) (ranges : List Range) (size depth k : ℕ) → length ranges ≡ length sessions → length sessions ≤ k → specs_from 1 (map plan_of (take k sessions)) (take k ranges) size depth ≡ specs_from 1 (map plan_of sessions) ranges size depth
-all_specs sessions ranges size depth k same all =
-    ap (λ l. specs_from 1 (map plan_of l) (take k ranges) size depth) (take_all k sessions all)
-    ∙ ap (λ l. specs_from 1 (map plan_of sessions) l size depth) (take_all k ranges (omega (arith, same, all)))
-
 -- as many as were gone over
 pub spec_count : (n : ℕ) (sessions : List SessionScript) (ranges : List Range) (size depth k : ℕ) → length ranges ≡ length sessions → k ≤ length sessions → length (specs_from n (map plan_of (take k sessions)) (take k ranges) size depth) ≡ k
 spec_count n sessions ranges size depth k same within =
@@ -91,9 +85,6 @@ turned size lines i pieces other all so_far is =
     ap (map (λ (p : List ℕ). length p)) is ∙ map-reverse (λ (p : List ℕ). length p) pieces ∙ ap reverse (so_far ∙ ap (piece_lengths size) (take_all i lines all))
 
 -- ---- the pieces of sessions
-
-pub none_yet : (size : ℕ) (pieces : List (Vec (List ℕ) Global)) → pieces ≡ [] → AreAllPieces size [] pieces
-none_yet size pieces empty = subst (λ l. AreAllPieces size [] l) (sym empty) (record { count = refl; each = λ k plan some at there. absurd (cc at) })
 
 one_more : (size : ℕ) (plans : List SessionPlan) (plan : SessionPlan) (all : List (Vec (List ℕ) Global)) (some : Vec (List ℕ) Global) → AreAllPieces size plans all → ArePieces size plan.lines some.items → AreAllPieces size (plans ++ plan ∷ []) (all ++ some ∷ [])
 one_more size plans plan all some so_far its = record {

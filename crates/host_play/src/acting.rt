@@ -1,5 +1,5 @@
 //! Each does its part: a client plays its session, and a worker goes round the server until all sessions are closed.
-ghost use Rattle.std.specs.Prelude.{◌≡◌, ◌<◌, All, length};
+ghost use Rattle.std.specs.Prelude.{◌<◌, All, length};
 ghost use Rattle.host_worker.specs.Hands.{IsHandOf};
 ghost use Rattle.host_worker.specs.Servers.{IsClientOf, IsServer};
 ghost use Rattle.script_model.specs.Plans.{plans_of};

@@ -1,5 +1,5 @@
 //! The pieces that shows are put into, taken before the sessions begin.
-ghost use Rattle.std.specs.Prelude.{◌≡◌, ◌≤◌, All, length, IfOk, IfSome};
+ghost use Rattle.std.specs.Prelude.{◌≡◌, All, length, IfOk};
 ghost use Rattle.script_model.specs.Plans.{plans_of};
 ghost use Rattle.host_play.specs.Casts.{AreAllPieces};
 ghost use Rattle.host_play.specs.Pieces.{ArePieces, FitsShow, piece_length};

@@ -1,4 +1,3 @@
-pub mod Digits
 pub mod Generated
 pub mod NamedRecords
 pub mod Owed

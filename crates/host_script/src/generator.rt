@@ -1,5 +1,5 @@
 // Scripts that are made from a seed.
-ghost use Rattle.std.specs.Prelude.{◌≡◌, ◌+◌, ◌-◌, ◌≤◌, ◌<◌, ◌++◌, ◌∷◌, IfOk, OnOk, map};
+ghost use Rattle.std.specs.Prelude.{◌≡◌, ◌+◌, ◌-◌, ◌≤◌, ◌<◌, ◌++◌, ◌∷◌, IfOk, OnOk};
 ghost use Rattle.script_model.specs.Plans.{plan_of};
 ghost use Rattle.script_model.specs.Generate.{after_request, request_line, waits, after_requests, session_from, generated};
 ghost use Rattle.script_model.specs.Plans.{plans_of};

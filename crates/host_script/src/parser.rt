@@ -1,5 +1,4 @@
 // Reading a script.
-ghost use Rattle.std.specs.Prelude.{◌≡◌};
 ghost use Rattle.script_model.specs.Script.{Parses, Reads, script_of, after_line};
 ghost use Rattle.script_model.specs.Words.{words};
 

@@ -26,9 +26,6 @@ within : (xs ys : List (List ℕ)) → ((bytes : List ℕ) → count (bytes_eq b
 within xs ys h = all_pass (λ x. nat_le (count (bytes_eq x) xs) (count (bytes_eq x) ys)) xs (λ x _. le-leb (count (bytes_eq x) xs) (count (bytes_eq x) ys) (h x))
 
 module _ (log : List Event) (rows : List TakenRow) (answered : List ℕ) (h : AreAnswered log rows answered) where
-  bytes_of : ℕ → List ℕ
-  bytes_of i = answer_bytes (requests log) rows i
-
   once : StandsOnce answered (due_records log rows)
   once = record { once = h.once; among = h.due }
 

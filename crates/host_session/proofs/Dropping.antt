@@ -1,17 +1,14 @@
 -- The buffers that hold pages are released one by one.
-use Rattle.std.proofs.Common.{◌≡◌, ℕ, ◌+◌, ◌≤◌, ◌<◌, ◌==◌, Bool, true, false, not, ◌||◌, cond, IsTrue, MatchBool, MatchOption, List, [], ◌∷◌, ◌++◌, length, filter, filter_map, Option, Some, None, refl, sym, ap, subst, ◌∙◌, arith, append_assoc, append-nil}
-use Rattle.std.specs.List.{All, list_all, list_any, range_with_len, slice_get}
+use Rattle.std.proofs.Common.{◌≡◌, ℕ, ◌≤◌, ◌<◌, ◌==◌, Bool, true, false, not, ◌||◌, cond, List, [], ◌∷◌, ◌++◌, length, filter, filter_map, Some, None, refl, sym, ap, subst, ◌∙◌, arith, append_assoc, append-nil}
+use Rattle.std.proofs.Math.Bool.{or-true, or-false}
+use Rattle.std.specs.List.{All, list_any, range_with_len, slice_get}
 use Rattle.std.specs.Option.{option_map_or, unwrap_or}
 use Rattle.std.proofs.lemmas.Bool.{eq-eqb}
 use Rattle.std.proofs.lemmas.List.{map-append}
 use Rattle.std.proofs.lemmas.List.Folds.{list_any-append}
 use Rattle.std.proofs.lemmas.List.Elements.{All-cons, All-nil, filter_map-append}
 use Rattle.std.proofs.lemmas.List.Sums.{sum_by-append}
-use Rattle.atomic_table.specs.Seated.{TableId}
 use Rattle.host_frames.specs.declared.seat.PoolSeat.{PoolSeat}
-use Rattle.host_intake.specs.State.{MemorySeat}
-use Rattle.host_memory.specs.declared.limits.MemoryPlan.{MemoryPlan}
-use Rattle.host_memory.specs.Numbers.{is_numbered}
 use Rattle.host_memory.specs.Entries.{given_count, is_attach}
 use Rattle.host_memory.specs.Held.{attachment_by, attachment_of, first_held, holds_pages, is_released, page_count_of}
 use Rattle.host_memory.specs.Pins.{is_done_for, is_left, pins_left}
@@ -21,12 +18,10 @@ use Rattle.host_model.specs.declared.memory.MemEvent.{MemEvent}
 use Rattle.host_model.specs.declared.memory.MemEvent.TheVariants.{Attach, Fill, Show, Pin, Lift, Land, Done, Release}
 use Rattle.host_model.specs.declared.memory.MemEvent.TheVariants as mem
 use Rattle.host_model.specs.Releases.{is_release_of}
-use Rattle.host_turn.specs.History.{Adds, Continues}
-use Rattle.host_turn.specs.Seats.{IsOutside, IsSameSeat, number, seen_by}
-use Rattle.host_session.specs.Closing.{FoundPin, HasDropped, HasGivenBack, HasReleased, IsFreed, IsPinned, releases_by}
+use Rattle.host_turn.specs.History.{Adds}
+use Rattle.host_session.specs.Closing.{HasDropped, HasGivenBack, releases_by}
 use Rattle.host_session.specs.Visits.{entry_by}
 use Rattle.host_session.proofs.Snoc.{filter_none, found_none}
-use Rattle.host_session.proofs.Turning.{same_seat}
 
 module _ {A : Type 0} (p q : A → Bool) (less : (x : A) → q x ≡ true → p x ≡ true) where
   no_more_pass : (xs : List A) → length (filter q xs) ≤ length (filter p xs)
@@ -50,14 +45,6 @@ module _ {A : Type 0} (p q : A → Bool) (less : (x : A) → q x ≡ true → p 
       at true false is f first ih le = omega (arith, le)
       at false true is f first ih le = absurd (cc (f refl))
       at false false is f first ih le = ih first
-
-or_true : (b : Bool) → (b || true) ≡ true
-or_true true = refl
-or_true false = refl
-
-or_false : (b : Bool) → (b || false) ≡ b
-or_false true = refl
-or_false false = refl
 
 filter_same : {A : Type 0} (p q : A → Bool) → ((x : A) → p x ≡ q x) → (xs : List A) → filter p xs ≡ filter q xs
 filter_same p q same [] = refl
@@ -90,7 +77,7 @@ module _ (h : List MemEvent) (v : ℕ) where
 
   gone_now : holds_pages v (h ++ Release v ∷ []) ≡ false
   gone_now =
-      let e : is_released v (h ++ Release v ∷ []) ≡ true = released_now v ∙ (ap (λ b. is_released v h || (b || false)) (eq-eqb v v refl) ∙ or_true (is_released v h)) in
+      let e : is_released v (h ++ Release v ∷ []) ≡ true = released_now v ∙ (ap (λ b. is_released v h || (b || false)) (eq-eqb v v refl) ∙ or-true (is_released v h)) in
       ap (λ b. option_map_or (λ n. true) (cond b None (option_map_or (λ a. Some a.pages) (attachment_of v (h ++ Release v ∷ [])) None)) false) e
 
   -- how many buffers hold pages
@@ -103,7 +90,7 @@ module _ (h : List MemEvent) (v : ℕ) where
   left_still (Attach id pages from) = refl
   left_still (Fill id block cnt byte) = refl
   left_still (Show id block cnt) = refl
-  left_still (Pin index id by) = ap not (list_any-append (is_done_for index) h (Release v ∷ []) ∙ or_false (list_any (is_done_for index) h))
+  left_still (Pin index id by) = ap not (list_any-append (is_done_for index) h (Release v ∷ []) ∙ or-false (list_any (is_done_for index) h))
   left_still (Lift index k id block bytes) = refl
   left_still (Land index k id block bytes) = refl
   left_still (Done index id) = refl
@@ -156,34 +143,3 @@ releases_mine client (v ∷ ids) = All-cons (λ (e : MemEntry). e.hand ≡ clien
 -- what was released stands under the client's number
 pub dropped_adds : (client : ℕ) (old new : MemoryState) (seat seat' : PoolSeat) → HasDropped client old new seat seat' → Adds (λ (e : MemEntry). e.hand) client old.entries new.entries
 dropped_adds client old new seat seat' d = (releases_by client d.ids, ap (λ (s : MemoryState). s.entries) d.left, releases_mine client d.ids)
-
--- What was found and left, once the client's seat is outside again.
-pub released_answer : (client front : ℕ) (old mid q : MemorySeat) (m n : MemoryState) (seat seat' : PoolSeat) (closed : Bool) (known : ℕ) → IsSameSeat old mid → m.entries ≡ seen_by mid → Continues (λ (e : MemEntry). e.hand) (number old) (seen_by old) (seen_by mid)
-    → front ≤ length m.entries → IsTrue (list_all (is_numbered client (client + 1)) m.entries) → MatchBool closed (IsFreed client m n seat seat') (IsPinned m n seat seat') → IsSameSeat mid q × IsOutside q → seen_by q ≡ n.entries → known ≡ length n.entries
-    → (known ≡ length (seen_by q)) × MatchBool closed (HasReleased client front old q seat seat') (FoundPin client front old q seat seat')
-released_answer client front old mid q m n seat seat' true known same story later past numbers f out seen k = (
-  k ∙ ap length (sym seen),
-  record {
-    found = m.entries;
-    numbered = numbers;
-    ids = f.dropped.ids;
-    visit = record { seat = (same_seat old mid q same out.0, out.1); later = subst (λ l. Continues (λ (e : MemEntry). e.hand) (number old) (seen_by old) l) (sym story) later; past = past; left = seen ∙ ap (λ (s : MemoryState). s.entries) f.dropped.left };
-    no_pins = f.no_pins;
-    none_left = ap (λ l. first_held (events l)) seen ∙ f.none_left;
-    home = f.dropped.home;
-  },
-)
-released_answer client front old mid q m n seat seat' false known same story later past numbers f out seen k = (
-  k ∙ ap length (sym seen),
-  record {
-    found = m.entries;
-    numbered = numbers;
-    visit = record { seat = (same_seat old mid q same out.0, out.1); later = subst (λ l. Continues (λ (e : MemEntry). e.hand) (number old) (seen_by old) l) (sym story) later; past = past; left = seen ∙ (ap (λ (s : MemoryState). s.entries) f.same ∙ sym (append-nil m.entries)) };
-    pin = f.pin;
-    pool = f.pool;
-  },
-)
-
--- whose number and which pool the plan has that was found
-pub plan_found : (client : ℕ) (o : Option MemoryPlan) (plan : MemoryPlan) (pool : TableId × ℕ) → MatchOption o ⊥ (λ p. (p.pool ≡ pool) × (p.limits.hands ≡ client)) → o ≡ Some plan → (plan.pool ≡ pool) × (plan.limits.hands ≡ client)
-plan_found client o plan pool is e = subst (λ x. MatchOption x ⊥ (λ p. (p.pool ≡ pool) × (p.limits.hands ≡ client))) e is

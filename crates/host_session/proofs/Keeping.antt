@@ -1,5 +1,6 @@
 -- What is true of a client end, once an event without an entry was added to its log.
 use Rattle.std.proofs.Common.{◌≡◌, ℕ, zero, suc, ◌+◌, ◌-◌, ◌≤◌, ◌<◌, Bool, true, false, not, ◌==◌, ◌||◌, cond, List, [], ◌∷◌, ◌++◌, length, filter, Option, Some, None, refl, sym, ap, subst, ◌∙◌, arith, length-append}
+use Rattle.std.proofs.Math.Bool.{or-true}
 use Rattle.std.specs.List.{list_any, slice_get, range_with_len}
 use Rattle.std.proofs.lemmas.Bool.{eq-eqb}
 use Rattle.host_intake.specs.declared.entry.IntakeEntry.{IntakeEntry}
@@ -104,10 +105,6 @@ ended_quiet c finish closed log es h e inner not_aborted over follows t = record
 
 -- ---- late releases
 
-or_true : (b : Bool) → (b || true) ≡ true
-or_true true = refl
-or_true false = refl
-
 -- an own entry stands among the own ones
 pub own_stands : (c n : ℕ) (h : List MemEntry) (e : MemEntry) → slice_get h n ≡ Some e → e.hand ≡ c → is_release e.what ≡ true → list_any is_release (events (entries_of (λ x. x.hand) c h)) ≡ true
 own_stands c n [] e at by is = absurd (cc at)
@@ -119,7 +116,7 @@ own_stands c zero (x ∷ h) e at by is =
 own_stands c (suc n) (x ∷ h) e at by is = later (x.hand == c) (own_stands c n h e at by is)
   where
     later : (b : Bool) → list_any is_release (events (entries_of (λ y. y.hand) c h)) ≡ true → list_any is_release (events (cond b (x ∷ entries_of (λ y. y.hand) c h) (entries_of (λ y. y.hand) c h))) ≡ true
-    later true t = ap (λ b. is_release x.what || b) t ∙ or_true (is_release x.what)
+    later true t = ap (λ b. is_release x.what || b) t ∙ or-true (is_release x.what)
     later false t = t
 
 -- where the client released nothing, nothing is early

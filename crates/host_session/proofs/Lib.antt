@@ -10,7 +10,6 @@ pub mod Entered
 pub mod Finishing
 pub mod Keeping
 pub mod Logged
-pub mod Refusing
 pub mod Requests
 pub mod Shutting
 pub mod Snoc

@@ -57,16 +57,6 @@ range_misses z a (suc n) h =
     let ne : nat_eq z a ≡ false = ne_eqb z a (λ e. omega (arith, e, h)) in
     times_one z a (range_with_len (a + 1) n) ∙ ap (λ b. cond b 1 0 + times z (range_with_len (a + 1) n)) ne ∙ omega (arith, range_misses z (a + 1) n (omega (arith, h)))
 
-pub range_within : (z a n : ℕ) → 0 < times z (range_with_len a n) → z < a + n
-range_within z a zero h = absurd (omega (arith, h))
-range_within z a (suc n) h = at (nat_eq z a) refl (λ p. range_within z (a + 1) n p)
-  where
-    at : (b : Bool) → nat_eq z a ≡ b → (0 < times z (range_with_len (a + 1) n) → z < a + 1 + n) → z < a + suc n
-    at true e later = omega (arith, sound z a e)
-    at false e later =
-        let one : times z (a ∷ range_with_len (a + 1) n) ≡ 0 + times z (range_with_len (a + 1) n) = times_one z a (range_with_len (a + 1) n) ∙ ap (λ b. cond b 1 0 + times z (range_with_len (a + 1) n)) e in
-        omega (arith, later (omega (arith, h, one)))
-
 pub range_has : (z a n : ℕ) → a ≤ z → z < a + n → 0 < times z (range_with_len a n)
 range_has z a zero lo hi = absurd (omega (arith, lo, hi))
 range_has z a (suc n) lo hi = at (nat_eq z a) refl (λ p q. range_has z (a + 1) n p q)

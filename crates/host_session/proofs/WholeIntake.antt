@@ -59,9 +59,6 @@ nil_of [] e = refl
 nil_of (x ∷ xs) e = absurd (omega (arith, e))
 
 module _ (seen rest es : List IntakeEntry) (whole : seen ++ rest ≡ es) (same : turns es ≡ turns seen) (closed : phase_in seen ≡ Closed) (before_close : IsTrue (all_with_before is_taken_open es)) where
-  pub phase_still : phase_in es ≡ Closed
-  phase_still = ap (last Running) same ∙ closed
-
   no_turns : turns rest ≡ []
   no_turns = none_after (turns seen) (turns rest) (sym (filter_map-append turn_of seen rest) ∙ (ap turns whole ∙ same))
 

@@ -1,12 +1,11 @@
 //! Records go out, and answers come in.
-ghost use Rattle.std.specs.Prelude.{◌≡◌, ◌+◌, ◌<◌, ◌≤◌, if◌then◌else◌, true, false, length, MatchOption, Some, IsTrue};
+ghost use Rattle.std.specs.Prelude.{◌≡◌, ◌+◌, ◌<◌, ◌≤◌, if◌then◌else◌, true, false, length, MatchOption, Some};
 ghost use Rattle.host_model.specs.Groups.{is_owing};
 ghost use Rattle.host_model.specs.Log.{received, sent};
 ghost use Rattle.host_record.specs.Request.{request_of};
 ghost use Rattle.host_record.specs.Response.{response_of};
-ghost use Rattle.host_rings.specs.AnswerEnds.{FoundNone};
 ghost use Rattle.host_session.specs.Acts.{is_answer};
-ghost use Rattle.host_session.specs.Calls.{AreNoAnswers, HasFoundAnswer, IsRecvAnswer, IsSendAnswer, with_slips};
+ghost use Rattle.host_session.specs.Calls.{HasFoundAnswer, IsRecvAnswer, IsSendAnswer};
 ghost use Rattle.host_session.specs.Client.{room_left};
 ghost use Rattle.host_session.specs.Plan.{IsShared};
 

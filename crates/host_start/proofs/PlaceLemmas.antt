@@ -1,5 +1,5 @@
 -- Partitions of a layout, and the first of a list of sessions that isn't served.
-use Rattle.std.proofs.Common.{◌≡◌, ℕ, false, cond, ◌+◌, ◌<◌, ◌≤◌, List, [], ◌∷◌, ◌++◌, length, map, take, drop, get_or, refl, sym, ◌∙◌, ap, subst, arith, take-append-drop, take-suc, drop-cons, suc, length-take-le}
+use Rattle.std.proofs.Common.{◌≡◌, ℕ, false, cond, ◌+◌, ◌<◌, List, [], ◌∷◌, ◌++◌, length, map, take, drop, get_or, refl, sym, ◌∙◌, ap, subst, arith, take-append-drop, take-suc, drop-cons, suc}
 use Rattle.std.specs.Prelude.{◌↔◌, All, IsErrOf, Result, Ok, Err, is_ok, is_err}
 use Rattle.std.proofs.lemmas.List.{get_or-map, length-map, map-append}
 use Rattle.std.proofs.lemmas.List.Elements.{All-map, All-push, All-same, All-weaker}
@@ -20,14 +20,6 @@ use Rattle.host_start.specs.declared.places.Place.{Place}
 use Rattle.script_model.specs.Plans.{plan_of}
 use Rattle.script_model.specs.declared.script.SessionScript.{SessionScript}
 
--- a range ends within the image
-pub range_ends : (layout : Layout) (part : ℕ) (range : Range) → IsRangeOf layout part range → range.first + range.count ≤ layout.blocks
-range_ends layout part range is = omega (arith, is.starts, is.counts, is.served.order, is.served.below, is.served.inside)
-
-pub ranges_end : (layout : Layout) (places : List Place) → All (λ (p : Place). IsRangeOf layout p.part p.range) places → All (λ (p : Place). p.range.first + p.range.count ≤ layout.blocks) places
-ranges_end layout places ranges =
-    All-weaker (λ (p : Place). IsRangeOf layout p.part p.range) (λ (p : Place). p.range.first + p.range.count ≤ layout.blocks) (λ p is. range_ends layout p.part p.range is) places ranges
-
 -- a number without a range isn't served
 pub not_served : (layout : Layout) (part : ℕ) (error : PartError) → AreUsed layout.entries → IsErrOf {T = Range} (Err error) Unused ↔ IsUnused layout part
     → IsErrOf {T = Range} (Err error) BadEntry ↔ IsBad layout part → ¬ IsServedPart layout part
@@ -43,10 +35,6 @@ same_parts (s ∷ sessions) = ap (λ (l : List ℕ). s.part ∷ l) (same_parts s
 pub record AreFirst (layout : Layout) (parts : List ℕ) (places : List Place) (n : ℕ) : Type 0 where
   pub named : map (λ (p : Place). p.part) places ≡ take n parts
   pub ranges : All (λ (p : Place). IsRangeOf layout p.part p.range) places
-
--- as many as sessions
-pub count_first : (layout : Layout) (parts : List ℕ) (places : List Place) (n : ℕ) → n ≤ length parts → AreFirst layout parts places n → length places ≡ n
-count_first layout parts places n within first = sym (length-map places (λ (p : Place). p.part)) ∙ ap length first.named ∙ length-take-le n parts within
 
 -- one more
 pub more_first : (layout : Layout) (parts : List ℕ) (places : List Place) (n : ℕ) (place : Place) → AreFirst layout parts places n → n < length parts → get_or parts n 0 ≡ place.part

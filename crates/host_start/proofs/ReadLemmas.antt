@@ -1,5 +1,5 @@
 -- What the steps of reading a script say together.
-use Rattle.std.proofs.Common.{◌≡◌, ℕ, ◌≤◌, Bool, true, false, cond, List, [], ◌++◌, length, take, refl, sym, ◌∙◌, ap, subst, append-nil, append_assoc, length-append, arith, Option, Some, None, Result, Ok, Err}
+use Rattle.std.proofs.Common.{◌≡◌, ℕ, ◌≤◌, Bool, true, false, cond, List, [], ◌++◌, length, take, refl, sym, ◌∙◌, ap, subst, arith, Option, Some, None, Result, Ok, Err}
 use Rattle.std.specs.Prelude.{nat_lt, IfOk}
 use Rattle.std.proofs.lemmas.Bool.{ltb-false}
 use Rattle.std.proofs.lemmas.List.{length-map, length-take-le}
@@ -67,21 +67,6 @@ source_script (error.TooLarge what) is = absurd is
 source_script error.Disk is = absurd is
 source_script error.NoTable is = absurd is
 source_script (error.NoPart session part) is = absurd is
-
--- some bytes more were taken
-pub more_taken : (left mid new_left old new : List ℕ) (n : ℕ) → left ≡ old ++ mid → TakesMore mid new_left old new n → left ≡ new ++ new_left
-more_taken left mid new_left old new n before more =
-    before ∙ ap (λ (l : List ℕ). old ++ l) more.from ∙ sym (append_assoc old more.taken new_left) ∙ ap (λ (l : List ℕ). l ++ new_left) (sym more.into)
-
--- none more were left
-pub all_taken : (left mid new_left old new : List ℕ) (n : ℕ) → left ≡ old ++ mid → TakesMore mid new_left old new n → n ≡ 0 → length old ≤ 1048576 → IsTaken left new_left new
-all_taken left mid new_left old new n before more none short =
-    let end = more.end none in
-    record {
-      all = more_taken left mid new_left old new n before more ∙ ap (λ (l : List ℕ). new ++ l) end ∙ append-nil new;
-      end = end;
-      short = let long = ap length more.into ∙ length-append old more.taken in omega (arith, long, more.count, none, short);
-    }
 
 -- a piece that was taken
 pub piece_taken : (left new_left piece old new : List ℕ) (n : ℕ) → left ≡ take n piece ++ new_left → n ≤ length piece → new ≡ old ++ take n piece → (n ≡ 0 → left ≡ []) → TakesMore left new_left old new n

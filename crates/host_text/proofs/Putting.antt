@@ -32,14 +32,6 @@ rose_later a b c p q = omega arith
 module _ {S : Type 0} {tells : S → Bool} {faults : S → ℕ} {appended : S → List ℕ} where
   -- ---- nothing, or a piece
 
-  pub adds_nil : (s : S) (h : List ℕ) → Adds tells faults appended s h s h []
-  adds_nil s h = record {
-    told = refl;
-    later = omega arith;
-    kept = λ _. prefix_refl (appended s);
-    all = λ _. sym (append-nil (appended s ++ h));
-  }
-
   -- a piece is held
   pub adds_held : (s : S) (h x : List ℕ) → Adds tells faults appended s h s (h ++ x) x
   adds_held s h x = record {

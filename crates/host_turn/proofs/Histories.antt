@@ -1,7 +1,7 @@
 -- Beginnings of a list, and the entries of one maker.
 use Rattle.std.proofs.Common.{◌≡◌, ◌≢◌, ℕ, ◌+◌, ◌≤◌, Bool, true, false, eqb, cond, List, [], ◌∷◌, ◌++◌, length, drop, sym, refl, ap, ap₂, ◌∙◌, append_assoc, append-nil, length-append, ne_eqb, eq-eqb, arith}
 use Rattle.std.specs.List.{All}
-use Rattle.std.proofs.lemmas.List.Elements.{filter-append, All-nil, All-cons, All-append, All-head, All-tail}
+use Rattle.std.proofs.lemmas.List.Elements.{filter-append, All-head, All-tail}
 use Rattle.std.proofs.lemmas.Bool.{ltb-true, ltb-false}
 use Rattle.std.specs.Prelude.{ltb}
 use mathlib.Core.List.{IsPrefix}
@@ -87,15 +87,6 @@ module _ {E : Type 0} where
         let b : length (entries_of maker n zs) ≡ length (entries_of maker n ys) + length (entries_of maker n q.0) = ap length g ∙ length-append (entries_of maker n ys) (entries_of maker n q.0) in
         let c : length (entries_of maker n zs) ≡ length (entries_of maker n xs) = ap length e in
         f ∙ (ap (λ l. entries_of maker n xs ++ l) (empty (entries_of maker n p.0) (omega arith)) ∙ append-nil (entries_of maker n xs))
-
-    pub adds_nothing : (n : ℕ) (xs : List E) → Adds maker n xs xs
-    adds_nothing n xs = ([], sym (append-nil xs), All-nil (λ e. maker e ≡ n))
-
-    pub adds_one : (n : ℕ) (xs : List E) (e : E) → maker e ≡ n → Adds maker n xs (xs ++ e ∷ [])
-    adds_one n xs e is = (e ∷ [], refl, All-cons (λ e. maker e ≡ n) e [] is (All-nil (λ e. maker e ≡ n)))
-
-    pub adds_more : (n : ℕ) (xs ys zs : List E) → Adds maker n xs ys → Adds maker n ys zs → Adds maker n xs zs
-    adds_more n xs ys zs a b = (a.0 ++ b.0, b.1 ∙ (ap (λ l. l ++ b.0) a.1 ∙ append_assoc xs a.0 b.0), All-append (λ e. maker e ≡ n) a.0 b.0 a.2 b.2)
 
     pub entries_all : (n : ℕ) (xs : List E) → All (λ e. maker e ≡ n) xs → entries_of maker n xs ≡ xs
     entries_all n [] h = refl

@@ -58,9 +58,6 @@ module _ {S E F : Type 0} (story : S → List E) (fixed : S → F) (b : TableId)
   seats_pop all qs o q items is new = let whole = subst (AreNewSeats story fixed b x) (items ∙ ap (λ z. qs ++ option_to_list z) is) new in
       ((λ n p e. whole n p (slice_get_longer qs (q ∷ []) n p e)), whole (length qs) q (slice_get_last qs q), ap length (items ∙ ap (λ z. qs ++ option_to_list z) is) ∙ length-append qs (q ∷ []))
 
-  pub none_yet : AreNewSeats story fixed b x []
-  none_yet n q e = absurd (none_some q e)
-
   pub one_seat_more : (n : ℕ) (qs : List (BookSeat S E F)) (q : BookSeat S E F) → length qs ≡ n → AreNewSeats story fixed b x qs → IsNewSeat story fixed b x n q → AreNewSeats story fixed b x (qs ++ q ∷ [])
   one_seat_more n qs q len all new j p e = ⊎_elim (λ t. all j p t) (λ t. subst (λ (z : ℕ × BookSeat S E F). IsNewSeat story fixed b x z.0 z.1) (λ i. (sym (t.0 ∙ len) i, t.1 i)) new) (slice_get_snoc qs q p j e)
 

@@ -33,11 +33,6 @@ module _ {A : Type 0} where
   longer_at (x ∷ xs) ys zero a e = e
   longer_at (x ∷ xs) ys (suc j) a e = longer_at xs ys j a e
 
-  below : (xs : List A) (j : ℕ) (a : A) → get_elem? xs j ≡ some a → j < length xs
-  below [] j a e = absurd (some-ne-none a (sym e))
-  below (x ∷ xs) zero a e = omega arith
-  below (x ∷ xs) (suc j) a e = let more = below xs j a e in omega arith
-
 has_number_append : {E : Type 0} (xs ys : List (ℕ × List E)) (n : ℕ) → HasNumber (xs ++ ys) n → HasNumber xs n ⊎ HasNumber ys n
 has_number_append [] ys n p = inr p
 has_number_append (x ∷ xs) ys n p = ⊎_elim (λ t. inl (inl t)) (λ t. ⊎_elim (λ q. inl (inr q)) (λ q. inr q) (has_number_append xs ys n t)) p

@@ -27,13 +27,6 @@ module _ (o : Options) (meaning : (Word → List Word) → Option Meaning) where
   refused_up words (Ok x) e is h = absurd is
   refused_up words (Err y) e is h = subst (λ x. Reads o meaning words (Err x)) (sym is) (refused words e h)
 
-  -- `?` after want of memory
-  pub no_memory : (words : List Word) (r : Result Command WordsError) → IsErrAnd r (λ y. y ≡ Oom) → Reads o meaning words r
-  no_memory [] (Ok x) is = tt
-  no_memory [] (Err y) is = tt
-  no_memory (w ∷ words) (Ok x) is = absurd is
-  no_memory (w ∷ words) (Err y) is = subst (λ x. Reads o meaning (w ∷ words) (Err x)) (sym is) tt
-
   meant : (words : List Word) (m : ArgMatches) → IsGivenBy o words (Ok m) → of_command o meaning words ≡ meaning (texts_in m)
   meant words m (given, is, same) = ap (λ g. g >>= (λ x. meaning (under_names x))) is ∙ sym (λ i. meaning (λ name. same name i))
 

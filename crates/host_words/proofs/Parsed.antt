@@ -1,7 +1,8 @@
 -- A parse of a command's words: it fails, but for want of memory, just where the definition gives them no meaning, and has
 -- the values that the definition gives.
-use Rattle.std.proofs.Common.{◌<◌, drop, Ok, Err, ◌≡◌, ◌∙◌, inl, inr, Bool, true, false, cond, ◌&&◌, ◌||◌, not, refl, sym, ap, subst, List, [], ◌∷◌, ◌++◌, map, fold, Option, Some, None, arith, true≢false, append_assoc}
-use Rattle.std.specs.Prelude.{unwrap_or, length}
+use Rattle.std.proofs.Common.{drop, Ok, Err, ◌≡◌, ◌∙◌, inl, inr, Bool, true, false, cond, ◌&&◌, not, refl, sym, ap, subst, List, [], ◌∷◌, ◌++◌, map, fold, Option, Some, None, true≢false, append_assoc}
+use Rattle.std.proofs.Math.Bool.{or-true}
+use Rattle.std.specs.Prelude.{unwrap_or}
 use Rattle.std.specs.List.{list_all}
 use Rattle.std.specs.Str.{bytes_eq}
 use Rattle.std.proofs.lemmas.List.{append-nil}
@@ -24,17 +25,11 @@ use Rattle.clap.specs.Walk.{Row, Rule, all_of, finished, has_row, is_empty, noth
 use Rattle.host_words.specs.Given.{Given, Options, Word, given_by, has_short, values}
 use Rattle.host_words.specs.Syntax.{syntax}
 use Rattle.host_words.specs.Matches.{IsGiven, IsGivenBy, IsProper, refusal_of, texts_in}
-use Rattle.host_words.specs.declared.words_error.WordsError.TheVariants.{BadWords}
-use Rattle.host_words.proofs.WordKinds.{short_refused}
 use Rattle.host_words.proofs.Rules.{all_rules, built_is, built_plain, built_rules, built_shape, built_valued, built_words, none_rules}
 use Rattle.host_words.proofs.Turns.{all_added, nothing, value_added}
 use Rattle.host_words.proofs.Walks.{Goes, walks}
 
 -- ---- no rule has a default, and none is required
-
-or_true : (b : Bool) → (b || true) ≡ true
-or_true true = refl
-or_true false = refl
 
 both_same : (b : Bool) (rows : List Row) → cond b rows rows ≡ rows
 both_same true rows = refl
@@ -49,7 +44,7 @@ lacks_defaults rows [] e = (refl, refl)
 lacks_defaults rows (a ∷ rs) e =
     let parts = both (is_empty a.defaults) _ e in
     let rest = lacks_defaults rows rs parts.1 in
-    (rw (parts.0, or_true (has_row a.id rows), no_default rows a parts.0) rest.0, rw (no_default rows a parts.0) rest.1)
+    (rw (parts.0, or-true (has_row a.id rows), no_default rows a parts.0) rest.0, rw (no_default rows a parts.0) rest.1)
 
 no_defaults : (o : Options) → list_all (λ (a : Rule). is_empty a.defaults) (built_rules o) ≡ true
 no_defaults o = all_rules (λ a. is_empty a.defaults) built_valued built_plain built_words (λ n. refl) (λ n. refl) refl o.valued o.plain
@@ -170,11 +165,3 @@ module _ (name : Word) (o : Options) (proper : IsProper o) where
   given_failed [] e long h = tt
   given_failed (w ∷ rest) e long (inl oom) = subst (λ k. IsGivenBy o (map (λ w. w.now) rest) (Err (refusal_of k))) (sym oom) tt
   given_failed (w ∷ rest) e long (inr h) = among w.now (map (λ w. w.now) rest) (kind_of e) long h (given_by o (map (λ w. w.now) rest)) refl
-
-  pub given_short : (words : List (Bor Word)) → has_short (map (λ w. w.now) (drop 1 words)) ≡ true → IsGiven o (map (λ w. w.now) words) (Err BadWords)
-  given_short [] short = tt
-  given_short (w ∷ rest) short = short_refused o None (map (λ w. w.now) rest) short
-
-  pub given_none : (words : List (Bor Word)) → length words < 1 → IsGiven o (map (λ w. w.now) words) (Err BadWords)
-  given_none [] few = tt
-  given_none (w ∷ rest) few = absurd (omega arith)

@@ -1,5 +1,6 @@
 -- What `clap` makes of a command's syntax when it builds it.
 use Rattle.std.proofs.Common.{◌≡◌, ◌∙◌, Bool, true, false, cond, ◌&&◌, ◌||◌, not, refl, ap, ap₂, List, [], ◌∷◌, ◌++◌, map, Option, Some, None, is_some}
+use Rattle.std.proofs.Math.Bool.{or-false}
 use Rattle.std.specs.Prelude.{◌==◌, find, count_by}
 use Rattle.std.specs.List.{list_all, list_any}
 use Rattle.std.specs.Option.{option_map_or}
@@ -102,17 +103,13 @@ module _ (f : Word → Rule) (test : Word → Rule → Bool) (tests : (n name : 
       go true h next = ap (λ m. Some (f m)) (h refl)
       go false h next = next
 
-or_false : (b : Bool) → (b || false) ≡ b
-or_false true = refl
-or_false false = refl
-
 -- the rule of a long name
 abbrev pub rule_named : Options → Word → Option Rule
 rule_named o name = cond (has_name o.valued name) (Some (built_valued name)) (cond (has_name o.plain name) (Some (built_plain name)) None)
 
 pub by_long : (o : Options) (name : Word) → arg_by_long (built_rules o) name ≡ rule_named o name
-by_long o name = find_named built_valued long_test (λ n m. or_false (bytes_eq n m)) name (map built_plain o.plain ++ built_words ∷ []) o.valued
-    ∙ ap (cond (has_name o.valued name) (Some (built_valued name))) (find_named built_plain long_test (λ n m. or_false (bytes_eq n m)) name (built_words ∷ []) o.plain)
+by_long o name = find_named built_valued long_test (λ n m. or-false (bytes_eq n m)) name (map built_plain o.plain ++ built_words ∷ []) o.valued
+    ∙ ap (cond (has_name o.valued name) (Some (built_valued name))) (find_named built_plain long_test (λ n m. or-false (bytes_eq n m)) name (built_words ∷ []) o.plain)
 
 abbrev id_test : Word → Rule → Bool
 id_test id a = bytes_eq a.id id

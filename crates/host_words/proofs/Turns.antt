@@ -1,5 +1,6 @@
 -- Where `clap`'s walk over the words stands after each, and what it refuses.
-use Rattle.std.proofs.Common.{◌≡◌, ◌∙◌, inl, inr, Bool, true, false, cond, ◌&&◌, refl, sym, ap, ap₂, List, [], ◌∷◌, Option, Some, None, true≢false}
+use Rattle.std.proofs.Common.{◌≡◌, ◌∙◌, inl, inr, Bool, true, false, cond, refl, sym, ap, ap₂, List, [], ◌∷◌, Option, Some, None, true≢false}
+use Rattle.std.proofs.Math.Bool.{and-false}
 use Rattle.std.specs.Str.{bytes_eq}
 use Rattle.std.proofs.lemmas.Slice.Eq.{bytes_eq-Decides}
 use Rattle.clap.specs.declared.error.kind.ErrorKind.{ErrorKind}
@@ -115,24 +116,20 @@ module _ (name : Word) (o : Options) (proper : IsProper o) where
   unfolding walked
   waits_walked rows x t w n l known = rw (no_subcommand t w, l.no_end, l.long, valued_found n known, settles_to x rows) refl
 
-  and_false : (b : Bool) → (b && false) ≡ false
-  and_false true = refl
-  and_false false = refl
-
   -- no option waits for its value
   abbrev pub calm : Bool → Waiting
   calm true = positional
   calm false = idle
 
   pub other_fault : (rows : List Row) (x : Rest o) (b : Bool) (w : Word) → IsOther w → turn_fault s [] (standing rows (pending_of x) (calm b) false) w ≡ []
-  other_fault rows x true w h = rw (h.no_end, h.no_long, h.no_short, by_index o, and_false (is_pending built_words (pending_of x)), settles x rows) refl
-  other_fault rows x false w h = rw (h.no_end, h.no_long, h.no_short, by_index o, and_false (is_pending built_words (pending_of x)), settles x rows) refl
+  other_fault rows x true w h = rw (h.no_end, h.no_long, h.no_short, by_index o, and-false (is_pending built_words (pending_of x)), settles x rows) refl
+  other_fault rows x false w h = rw (h.no_end, h.no_long, h.no_short, by_index o, and-false (is_pending built_words (pending_of x)), settles x rows) refl
 
   pub other_walked : (rows : List Row) (x : Rest o) (b : Bool) (w : Word) → IsOther w
       → walked c [] (standing rows (pending_of x) (calm b) false) w ≡ standing (rest_added x rows) (Some (words_name, w ∷ [])) positional false
   unfolding walked
-  other_walked rows x true w h = rw (h.no_end, h.no_long, h.no_short, by_index o, and_false (is_pending built_words (pending_of x)), settles_to x rows) refl
-  other_walked rows x false w h = rw (h.no_end, h.no_long, h.no_short, by_index o, and_false (is_pending built_words (pending_of x)), settles_to x rows) refl
+  other_walked rows x true w h = rw (h.no_end, h.no_long, h.no_short, by_index o, and-false (is_pending built_words (pending_of x)), settles_to x rows) refl
+  other_walked rows x false w h = rw (h.no_end, h.no_long, h.no_short, by_index o, and-false (is_pending built_words (pending_of x)), settles_to x rows) refl
 
   pub end_fault : (rows : List Row) (p : Option (Text × List Text)) (t : Waiting) (w : Word) → bytes_eq w two_hyphens ≡ true → turn_fault s [] (standing rows p t false) w ≡ []
   end_fault rows p t w is = rw (no_subcommand t w, is) refl
@@ -144,15 +141,15 @@ module _ (name : Word) (o : Options) (proper : IsProper o) where
   -- ---- a word after `--`
 
   pub last_fault : (rows : List Row) (x : Rest o) (t : Waiting) (w : Word) → turn_fault s [] (standing rows (pending_of x) t true) w ≡ []
-  last_fault rows x t w = rw (by_index o, and_false (is_pending built_words (pending_of x)), settles x rows) refl
+  last_fault rows x t w = rw (by_index o, and-false (is_pending built_words (pending_of x)), settles x rows) refl
 
   pub last_walked : (rows : List Row) (x : Rest o) (t : Waiting) (w : Word)
       → walked c [] (standing rows (pending_of x) t true) w ≡ standing (rest_added x rows) (Some (words_name, w ∷ [])) positional true
   unfolding walked
-  last_walked rows x t w = rw (by_index o, and_false (is_pending built_words (pending_of x)), settles_to x rows) refl
+  last_walked rows x t w = rw (by_index o, and-false (is_pending built_words (pending_of x)), settles_to x rows) refl
 
   pub last_lacks : (rows : List Row) (n : Word) (t : Waiting) (w : Word) → has_name o.valued n ≡ true → turn_fault s [] (standing rows (Some (n, [])) t true) w ≡ kind.InvalidValue ∷ []
-  last_lacks rows n t w known = rw (by_index o, and_false (bytes_eq n words_name), lacks_value n rows known) refl
+  last_lacks rows n t w known = rw (by_index o, and-false (bytes_eq n words_name), lacks_value n rows known) refl
 
   -- ---- a word where an option waits for its value
 

@@ -1,5 +1,6 @@
 -- What a word is to `clap`, by what it is to the definition.
 use Rattle.std.proofs.Common.{◌≡◌, ◌⊎◌, inl, inr, ℕ, Bool, true, false, cond, ◌&&◌, ◌||◌, not, refl, sym, ap, List, [], ◌∷◌, Option, Some, None, is_some, true≢false}
+use Rattle.std.proofs.Math.Bool.{and-false}
 use Rattle.std.specs.Prelude.{◌==◌, option_and_then}
 use Rattle.std.specs.List.{before_first}
 use Rattle.std.specs.Str.{bytes_eq}
@@ -28,10 +29,6 @@ Reads o w (joined name value) = IsLong w name (Some value) × (has_name o.valued
 Reads o w (waits name) = IsLong w name None × (has_name o.valued name ≡ true)
 Reads o w unknown = (is_short w ≡ true) ⊎ ((name : Word) × (value : Option Word) × IsLong w name value × Refused o name value)
 
-and_false : (b : Bool) → (b && false) ≡ false
-and_false true = refl
-and_false false = refl
-
 reads_option : (o : Options) (w name : Word) (value : Option Word) → IsLong w name value → Reads o w (option_kind o name value)
 reads_option o w name None long = go (has_name o.valued name) refl (has_name o.plain name) refl
   where
@@ -51,7 +48,7 @@ reads_hyphens o c d (x ∷ xs) e1 e2 = reads_option o (c ∷ d ∷ x ∷ xs) (be
     (record { no_end = rw (e1, e2) refl; long = rw (e1, e2) refl })
 
 reads_one : (o : Options) (c : ℕ) → Reads o (c ∷ []) other
-reads_one o c = record { no_end = and_false (c == 45); no_long = long (c == 45); no_short = short (c == 45) }
+reads_one o c = record { no_end = and-false (c == 45); no_long = long (c == 45); no_short = short (c == 45) }
   where
     long : (b : Bool) → option_and_then long_of_rest (option_and_then (strip_byte 45) (cond b (Some []) None)) ≡ None
     long true = refl

@@ -2,7 +2,6 @@
 use Rattle.std.proofs.Common.{◌≡◌, ◌⊎◌, inl, inr, ℕ, zero, suc, ◌+◌, ◌<◌, ◌≤◌, List, [], ◌∷◌, ◌++◌, length, map, reverse, All, Some, refl, sym, ap, subst, ◌∙◌, arith, length-append, Vec, vec_capacity}
 use Rattle.std.proofs.lemmas.List.{length-map, length-reverse, length-set, reverse-append}
 use Rattle.std.specs.Prelude.{slice_get}
-use Rattle.std.specs.Option.{ForSome}
 use Rattle.std.specs.declared.alloc.Global.{Global}
 use Rattle.std.proofs.lemmas.Option.{slice_get_within}
 use Rattle.host_session.specs.declared.hand.SessionHand.{SessionHand}
@@ -104,9 +103,6 @@ pub record AreGiven (k : ℕ) (old new : List Session) (share : List SessionHand
   pub done : (j : ℕ) (s s' : Session) (h : SessionHand) → slice_get new j ≡ Some s → slice_get old j ≡ Some s' → slice_get share j ≡ Some h → HasOneMore s s' h
   pub rest : (j : ℕ) → k ≤ j → slice_get new j ≡ slice_get old j
 
-pub given_none : (old : List Session) → AreGiven 0 old old []
-given_none old = record { count = refl; taken = refl; done = λ j s s' h a b at. absurd (cc at); rest = λ j le. refl }
-
 pub given_more : (k : ℕ) (old mid new : List Session) (share : List SessionHand) (h : SessionHand) → AreGiven k old mid share → HasGiven k mid new h → AreGiven (k + 1) old new (share ++ h ∷ [])
 given_more k old mid new share h g v = record {
   count = ap length v.left ∙ (length-set mid k v.after ∙ g.count);
@@ -126,12 +122,6 @@ given_more k old mid new share h g v = record {
         let same : Some v.before ≡ Some s' = sym v.stood ∙ (g.rest k (omega arith) ∙ (ap (λ (n : ℕ). slice_get old n) (sym e) ∙ at')) in
         let is_before : v.before ≡ s' = cc same in
         subst (λ (y : SessionHand). HasOneMore s s' y) (sym last.1) (subst (λ (y : Session). HasOneMore y s' h) (sym is_after) (subst (λ (y : Session). HasOneMore v.after y h) is_before v.more))
-
-pub given_all : (old new : List Session) (share : List SessionHand) → AreGiven (length old) old new share → HaveOneMore new old share
-given_all old new share g = record { count = (sym g.count, g.taken ∙ sym g.count); each = g.done }
-
-pub some_given : (k : ℕ) (old now : List Session) (share : List SessionHand) → AreGiven k old now share → All (λ (s : Session). 0 < length s.hands.items) old → ForSome (slice_get now k) (λ s. 0 < length s.hands.items)
-some_given k old now share g all s at = at_place (λ (s : Session). 0 < length s.hands.items) old k s all (sym (g.rest k (omega arith)) ∙ at)
 
 -- ---- one share after another
 

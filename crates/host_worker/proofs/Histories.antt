@@ -1,5 +1,6 @@
 -- What the blocks of a range have depends on the changes of the range alone.
 use Rattle.std.proofs.Common.{◌≡◌, ℕ, ◌==◌, Bool, true, false, cond, List, [], ◌∷◌, length, refl, sym, ap, ◌∙◌, arith}
+use Rattle.std.proofs.Math.Bool.{and-false}
 use Rattle.std.specs.Prelude.{not, ◌&&◌, if◌then◌else◌}
 use Rattle.std.proofs.lemmas.Bool.{eqb-true}
 use Rattle.std.proofs.lemmas.List.{take_all}
@@ -8,13 +9,9 @@ use Rattle.host_block.specs.Changes.{Change, changed, changes_block, content, pu
 use Rattle.host_block.specs.Disk.{block_at}
 use Rattle.host_worker.specs.Laws.{ContentIsOfOwnEntries, inside, is_in}
 
-and_false : (a : Bool) → (a && false) ≡ false
-and_false true = refl
-and_false false = refl
-
 -- a change of a block outside doesn't touch one inside
 untouched : (range : Range) (c : Change) (b : ℕ) → is_in range b ≡ true → is_in range c.block ≡ false → changes_block c b ≡ false
-untouched range c b here there = ap (λ (w : Bool). not c.faulted && puts_bytes c.op && w) (other (c.block == b) refl) ∙ and_false (not c.faulted && puts_bytes c.op)
+untouched range c b here there = ap (λ (w : Bool). not c.faulted && puts_bytes c.op && w) (other (c.block == b) refl) ∙ and-false (not c.faulted && puts_bytes c.op)
   where
     other : (w : Bool) → (c.block == b) ≡ w → w ≡ false
     other true e = absurd (cc (sym there ∙ (ap (λ (n : ℕ). is_in range n) (eqb-true c.block b e) ∙ here)))

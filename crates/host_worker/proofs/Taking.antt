@@ -27,9 +27,6 @@ pub record IsPutBack (k : ℕ) (share : List SessionHand) (old now : List Sessio
   pub done : (j : ℕ) (s s' : Session) (h : SessionHand) → j < k → slice_get old j ≡ Some s → slice_get now j ≡ Some s' → slice_get share j ≡ Some h → HasOneMore s s' h
   pub rest : (j : ℕ) → k ≤ j → slice_get now j ≡ slice_get old j
 
-pub back_none : (share : List SessionHand) (old : List Session) → IsPutBack 0 share old old
-back_none share old = record { count = refl; done = λ j s s' h less. absurd (omega (arith, less)); rest = λ j le. refl }
-
 pub back_more : (k : ℕ) (share : List SessionHand) (old mid new : List Session) (before after : Session) (h : SessionHand) → IsPutBack k share old mid → slice_get share k ≡ Some h → slice_get mid k ≡ Some before → new ≡ slice_set mid k after → HasOneMore before after h → IsPutBack (k + 1) share old new
 back_more k share old mid new before after h b here stood left one = record {
   count = ap length left ∙ (length-set mid k after ∙ b.count);
@@ -61,15 +58,6 @@ module _ {D : Type 0} {g : disk.Ghosts D} where
   pub record AreTakenBack (hands : List (Hand D g)) (old now : List Session) : Type 0 where
     pub count : length now ≡ length old
     pub each : (k : ℕ) (s s' : Session) → slice_get old k ≡ Some s → slice_get now k ≡ Some s' → (s'.spec ≡ s.spec) × (s'.shared ≡ s.shared) × (s'.opened ≡ s.opened) × (s'.hands.items ≡ s.hands.items ++ parts_in k hands) × (vec_capacity s'.hands ≡ vec_capacity s.hands)
-
-  pub taken_none : (old : List Session) → AreTakenBack [] old old
-  taken_none old = record {
-    count = refl;
-    each = λ k s s' at at'.
-        let q : Some s ≡ Some s' = sym at ∙ at' in
-        let e : s ≡ s' = cc q in
-        (ap (λ x. x.spec) (sym e), ap (λ x. x.shared) (sym e), ap (λ x. x.opened) (sym e), ap (λ x. x.hands.items) (sym e) ∙ sym (append-nil s.hands.items), ap (λ x. vec_capacity x.hands) (sym e));
-  }
 
   pub taken_more : (hands : List (Hand D g)) (hand : Hand D g) (old mid new : List Session) → AreTakenBack hands old mid → HaveOneMore mid new hand.sessions.items → AreTakenBack (hands ++ hand ∷ []) old new
   taken_more hands hand old mid new t m = record {
@@ -182,13 +170,6 @@ module _ (sessions : List Session) (clients : List ClientState) (left_s more_s :
       one k x y z (inr a) (inl b) f = absurd (omega (arith, slice_get_within d.done_c k y b, a.0, d.even))
       one k x y z (inl a) (inl b) (inr f) = absurd (omega (arith, slice_get_within d.done_s k x a, f.0, d.ended.count))
       one k x y z (inr a) (inr b) (inl f) = absurd (omega (arith, slice_get_within ends k z f, a.0, d.ended.count))
-
-pub ended_all : (sessions : List Session) (clients : List ClientState) (left_s : List Session) (left_c : List ClientState) (ends : List SessionReport) → left_s ≡ [] → AreEndedSoFar sessions clients left_s left_c ends → AreSessionsEnded sessions clients ends
-ended_all sessions clients left_s left_c ends none d =
-    let no_c : left_c ≡ [] = none_of left_c (d.left_even ∙ ap length none) in
-    let s : d.done_s ≡ sessions = sym (d.s_are ∙ (ap (λ (l : List Session). d.done_s ++ reverse l) none ∙ append-nil d.done_s)) in
-    let c : d.done_c ≡ clients = sym (d.c_are ∙ (ap (λ (l : List ClientState). d.done_c ++ reverse l) no_c ∙ append-nil d.done_c)) in
-    subst (λ (x : List Session). AreSessionsEnded x clients ends) s (subst (λ (y : List ClientState). AreSessionsEnded d.done_s y ends) c d.ended)
 
 -- what a loop has come to stands in the list
 pub place_of : {A : Type 0} (xs ys zs : List A) (x : A) (k : ℕ) → xs ≡ (ys ++ x ∷ []) ++ zs → k ≡ length ys → slice_get xs k ≡ Some x

@@ -25,9 +25,6 @@ pages_attached client = sum_by pages_attached_by client.log
 abbrev pub pages_wanted : ClientState → ℕ
 pages_wanted client = sum_by pages_asked_by client.log
 
-abbrev pub IsShort : ClientState → Type 0
-IsShort client = list_any is_short_of_frames client.log ≡ true
-
 -- the pages of the buffers that a client released
 abbrev pub released_of : ClientState → ℕ
 released_of client = released_by client.plan.hands (seen_by client.memory_seat)

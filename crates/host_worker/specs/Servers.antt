@@ -1,5 +1,5 @@
 -- A server: its device, its pool and its sessions; and which clients are its own.
-use Rattle.std.specs.Prelude.{◌≡◌, ℕ, ◌+◌, ◌-◌, ◌^◌, ◌<◌, ◌≤◌, List, [], length, slice_get, Some, vec_capacity}
+use Rattle.std.specs.Prelude.{◌≡◌, ℕ, ◌+◌, ◌-◌, ◌^◌, ◌<◌, ◌≤◌, [], length, slice_get, Some, vec_capacity}
 use Rattle.std.specs.Option.{ForSome}
 use Rattle.atomic_table.specs.Seated.{TableId}
 use Rattle.crossbeam_utils.specs.Padded.{padded_value}
@@ -37,9 +37,6 @@ pub record IsSession (blocks size hands : ℕ) (pool : TableId × ℕ) (k : ℕ)
 module _ {D : Type 0} {g : disk.Ghosts D} where
   abbrev pub pool_of : Server D g → Pool
   pool_of server = server.pool
-
-  abbrev pub sessions_of : Server D g → List Session
-  sessions_of server = server.sessions.items
 
   abbrev pub session_count : Server D g → ℕ
   session_count server = length server.sessions.items

@@ -1,5 +1,5 @@
 //! All that a server has but its device.
-ghost use Rattle.std.specs.Prelude.{◌≡◌, ◌<◌, ◌≤◌, length, IfOk, All, slice_get, vec_len, vec_capacity};
+ghost use Rattle.std.specs.Prelude.{◌<◌, ◌≤◌, length, IfOk, All, slice_get, vec_len, vec_capacity};
 ghost use Rattle.std.specs.Option.{ForSome};
 ghost use Rattle.host_frames.specs.Seats.{page_size, pool_id};
 ghost use Rattle.host_worker.specs.Shares.{HasHands, HaveOneMore};

@@ -2,7 +2,6 @@
 use Rattle.std.proofs.Common.{◌≡◌, ◌≢◌, ◌⊎◌, inl, inr, ℕ, zero, suc, ◌<◌, ◌==◌, Bool, true, false, not, ◌&&◌, ◌||◌, List, [], ◌∷◌, ◌++◌, length, Option, Some, None, MatchOption, refl, sym, ap, subst, ◌∙◌, eq-eqb}
 use Rattle.std.specs.Prelude.{slice_get, unwrap_or}
 use Rattle.std.specs.List.{list_any}
-use Rattle.std.specs.Option.{option_map_or}
 use Rattle.std.proofs.lemmas.Bool.{lt-ltb, ne_eqb}
 use Rattle.std.proofs.lemmas.Bool.Decides.{eqb_tells}
 use Rattle.std.proofs.lemmas.Option.{slice_get_within}
@@ -21,7 +20,7 @@ use Rattle.host_intake.specs.declared.waiting.Waiting.{Waiting}
 use Rattle.host_intake.specs.Admissions.{entry_for}
 use Rattle.host_intake.specs.Entries.{Taking, Landing, landing_of, landings, place_of, request_in, requests_of, taking_of, takings}
 use Rattle.host_intake.specs.Intaken.{IsIntake}
-use Rattle.host_intake.specs.Members.{AreLanded, is_lander}
+use Rattle.host_intake.specs.Members.{AreLanded}
 use Rattle.host_intake.specs.Rights.{HasRight}
 use Rattle.host_intake.specs.State.{IntakeState, plan_of}
 use Rattle.host_intake.specs.Told.{is_flying, is_open}
@@ -127,9 +126,6 @@ admitted_flies w c o p v is none some e = step w c o p none (some ∙ ap (λ (z 
 pub can_fly : (hand : ℕ) (s : IntakeState) (e : Envelope) (right : Option CellSeat) → CanLand hand s e right → is_flying e.index s.entries ≡ true
 can_fly hand s e right k =
     ap (λ b. b && is_open (landings s.entries) e.index) (lt-ltb e.index (length (takings s.entries)) (slice_get_within (takings s.entries) e.index k.0 k.1.at)) ∙ k.1.still_open
-
-pub can_tell : (hand : ℕ) (s : IntakeState) (e : Envelope) (right : Option CellSeat) → CanLand hand s e right → is_lander hand e.index (takings s.entries) ≡ true
-can_tell hand s e right k = ap (λ (o : Option Taking). option_map_or (λ (u : Taking). u.hand == hand || u.waits) o false) k.1.at ∙ k.2
 
 -- the request of a record that was taken
 pub request_there : (ts : List Taking) (i : ℕ) (t : Taking) → slice_get ts i ≡ Some t → request_at (requests_of ts) i ≡ request_in t

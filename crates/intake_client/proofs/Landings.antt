@@ -4,22 +4,17 @@ use Rattle.std.specs.Prelude.{slice_get, unwrap_or}
 use Rattle.atomic_table.specs.Seated.{TableId}
 use Rattle.host_record.specs.declared.request.Request.{Request}
 use Rattle.host_record.specs.Request.{request_of}
-use Rattle.host_model.specs.Groups.{is_member}
 use Rattle.host_model.specs.Log.{request_at}
 use Rattle.host_memory.proofs.Pushed.{filter_map_add, filter_map_skip}
 use Rattle.host_group.specs.declared.seat.CellSeat.{CellSeat}
-use Rattle.host_group.specs.declared.view.Member.{Member}
-use Rattle.host_group.specs.Seats.{IsRightOf, IsUnused, IsUsed, row, seat_cells}
+use Rattle.host_group.specs.Seats.{seat_cells}
 use Rattle.host_rings.specs.declared.envelope.Envelope.{Envelope}
 use Rattle.host_rings.specs.declared.slip.Slip.{Slip}
 use Rattle.host_intake.specs.declared.entry.IntakeEntry.TheVariants.{Landed}
 use Rattle.host_intake.specs.declared.entry.RecordEnd.{RecordEnd}
 use Rattle.host_intake.specs.Answers.{answer_owed, lone_slip}
-use Rattle.host_intake.specs.Entries.{Taking, Landing, landing_of, landings, place_of, request_in, requests_of, taking_of, takings}
-use Rattle.host_intake.specs.Members.{member_at}
-use Rattle.host_intake.specs.Rights.{AreSettled}
+use Rattle.host_intake.specs.Entries.{Taking, Landing, landing_of, landings, requests_of, taking_of, takings}
 use Rattle.host_intake.specs.State.{IntakeState}
-use Rattle.host_intake.proofs.Membering.{member_index}
 use Rattle.intake_client.specs.declared.flight.Flight.{Flight}
 use Rattle.intake_client.specs.Flights.{CanLand, Flies, HasLanded, IsFlying}
 use Rattle.intake_client.proofs.Flying.{ended_more, request_there}
@@ -31,44 +26,8 @@ request_is hand s e right k = request_there (takings s.entries) e.index k.0 k.1.
 -- ---- a lone record
 
 module _ (hand : ℕ) (s : IntakeState) (e : Envelope) (k : CanLand hand s e None) (end : RecordEnd) where
-  pub lone_settled : (cells : TableId) → AreSettled cells (requests_of (takings s.entries)) e.index end None
-  lone_settled cells = ap is_member (request_there (takings s.entries) e.index k.0 k.1.at) ∙ k.1.right_is
-
   pub lone_owed : (r : Request) (answer : Slip) → r ≡ request_of e.bytes → answer ≡ lone_slip r e.index end → Some answer ≡ answer_owed (request_at (requests_of (takings s.entries)) e.index) e.index end None
   lone_owed r answer is made = ap Some (made ∙ ap (λ (q : Request). lone_slip q e.index end) (is ∙ sym (request_is hand s e None k)))
-
--- ---- a member
-
-module _ (hand : ℕ) (s : IntakeState) (e : Envelope) (q : CellSeat) (k : CanLand hand s e (Some q)) (r : Request) (is : r ≡ request_of e.bytes) where
-  named : request_in k.0 ≡ r
-  named = ap (λ (x : Envelope). request_of x.bytes) k.1.envelope ∙ sym is
-
-  placed : place_of k.0 ≡ e.index
-  placed = ap (λ (x : Envelope). x.index) k.1.envelope
-
-  pub member_right : (cells : TableId) → seat_cells s.cell_seat ≡ cells → IsRightOf cells r.group q × IsUnused q
-  member_right cells of = (
-    subst (λ (a : TableId). IsRightOf a r.group q) of (subst (λ (x : Request). IsRightOf (seat_cells s.cell_seat) x.group q) named k.1.right_is.1.right_of),
-    k.1.right_is.1.unused,
-  )
-
-  pub member_placed : (row q).member.index ≡ e.index
-  member_placed = member_index (requests_of (takings s.entries)) (place_of k.0) (row q).member k.1.right_is.1.member ∙ placed
-
-  pub member_settled : (cells : TableId) (p : CellSeat) (end : RecordEnd) → IsRightOf cells r.group p → IsUsed p → (row p).member ≡ (row q).member
-      → (row p).status ≡ end.outcome → (row p).device_front ≡ end.device_front → (row p).memory_front ≡ end.memory_front → AreSettled cells (requests_of (takings s.entries)) e.index end (Some p)
-  member_settled cells p end right used same status device memory =
-      let there = request_there (takings s.entries) e.index k.0 k.1.at in (
-        ap is_member there ∙ k.1.right_is.0,
-        record {
-          right_of = subst (λ (x : Request). IsRightOf cells x.group p) (sym (there ∙ named)) right;
-          used = used;
-          member = ap (λ i. member_at (requests_of (takings s.entries)) i) (sym placed) ∙ (k.1.right_is.1.member ∙ ap (λ (m : Member). Some m) (sym same));
-          status = status;
-          device_front = device;
-          memory_front = memory;
-        },
-      )
 
 -- ---- what flies beside a record that ended
 

@@ -1,5 +1,6 @@
 -- A close that waited is taken out and ends.
-use Rattle.std.proofs.Common.{◌≡◌, ℕ, ◌==◌, Bool, true, false, ◌||◌, nat_lt, length, Option, Some, None, MatchOption, refl, sym, ap, subst, ◌∙◌}
+use Rattle.std.proofs.Common.{◌≡◌, ℕ, ◌==◌, false, ◌||◌, nat_lt, length, Option, Some, None, MatchOption, refl, sym, ap, subst, ◌∙◌}
+use Rattle.std.proofs.Math.Bool.{or-true}
 use Rattle.std.specs.Prelude.{slice_get}
 use Rattle.std.specs.List.{list_any}
 use Rattle.host_group.specs.Seats.{seat_cells}
@@ -13,10 +14,6 @@ use Rattle.intake_client.specs.declared.flight.Flight.{Flight}
 use Rattle.intake_client.specs.Flights.{CanLand, Flies, HasLanded, IsAsMade}
 use Rattle.intake_client.proofs.Flying.{flies_same}
 use Rattle.intake_client.proofs.Landings.{flies_landed, waited_other}
-
-or_on : (a : Bool) → (a || true) ≡ true
-or_on true = refl
-or_on false = refl
 
 -- the taking of the close
 abbrev OfWaiting : IntakeState → Waiting → Type 0
@@ -41,7 +38,7 @@ waiting_lands hand i old new w k =
         still_open = and_right (nat_lt w.envelope.index (length (takings old.entries))) (is_open (landings old.entries) w.envelope.index) m.flying;
         right_is = m.right;
       },
-      ap (λ b. t.hand == hand || b) m.waits ∙ or_on (t.hand == hand),
+      ap (λ b. t.hand == hand || b) m.waits ∙ or-true (t.hand == hand),
       none,
     )
 

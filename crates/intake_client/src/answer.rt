@@ -1,6 +1,6 @@
 //! The answers that the end of a record makes due.
 ghost use Rattle.std.specs.Prelude.{◌≡◌};
-ghost use Rattle.host_group.specs.Seats.{IsRight, IsRightOf, IsUnused, IsUsed, row};
+ghost use Rattle.host_group.specs.Seats.{IsRight, IsUnused, IsUsed, row};
 ghost use Rattle.host_intake.specs.Answers.{group_slip, lone_slip, row_slip};
 
 use host_group::{CellSeat, Cells, GroupEnd};

@@ -1,12 +1,11 @@
 -- What a list of what was done tells.
-use Rattle.std.proofs.Common.{◌≡◌, ℕ, suc, ◌+◌, ◌*◌, ◌≤◌, ◌==◌, Bool, true, false, not, ◌&&◌, ◌||◌, nat_lt, cond, List, [], ◌∷◌, ◌++◌, filter, filter_map, length, Some, None, refl, sym, ap, ◌∙◌, arith}
+use Rattle.std.proofs.Common.{◌≡◌, ℕ, suc, ◌+◌, ◌*◌, ◌≤◌, ◌==◌, Bool, true, false, not, ◌&&◌, ◌||◌, nat_lt, cond, List, [], ◌∷◌, filter, filter_map, length, Some, None, refl, ap, ◌∙◌, arith}
 use Rattle.std.specs.Prelude.{slice_get}
 use Rattle.std.specs.Bool.{then_some}
 use Rattle.std.specs.List.{cons_option, find, list_any}
 use Rattle.std.specs.Option.{option_map_or}
 use Rattle.std.proofs.lemmas.Bool.{and_parts, eqb-true, or_parts}
 use Rattle.std.proofs.lemmas.List.Sums.{count_by-le-length, length-filter}
-use Rattle.host_model.specs.declared.memory.MemEntry.{MemEntry}
 use Rattle.host_model.specs.declared.memory.MemEvent.{MemEvent}
 use Rattle.host_model.specs.declared.memory.MemEvent.TheVariants.{Attach, Pin}
 use Rattle.host_model.specs.declared.memory.MemEvent.TheVariants as mem
@@ -14,8 +13,6 @@ use Rattle.host_model.specs.Releases.{is_close_of, is_pin}
 use Rattle.host_memory.specs.Entries.{is_attach, is_fill_or_show, pin_count, used_room}
 use Rattle.host_memory.specs.Held.{attachment_by, closer_by, closer_of, is_block_of, is_given_by}
 use Rattle.host_memory.specs.Pins.{is_done_for, is_left, is_pin_by, is_pinned_by}
-use Rattle.host_memory.specs.State.{MemoryState, events, history}
-use Rattle.host_memory.proofs.Pushed.{events_pushed}
 use Rattle.memory_client.specs.Played.{has_page}
 
 -- ---- the room that entries take
@@ -84,9 +81,3 @@ pub block_found : (v block : ℕ) (h : List MemEvent) → is_block_of v h block 
 block_found v block [] = refl
 block_found v block (Attach id pages from ∷ xs) = given_step v block id pages from (id == v) xs (block_found v block xs)
 block_found v block (_ ∷ xs) = block_found v block xs
-
--- ---- a memory and the list beside it
-
--- the list has the entry that the memory has
-pub followed : (m n : MemoryState) (d e : List MemEvent) (x : MemEntry) → history m ≡ d → n.entries ≡ m.entries ++ x ∷ [] → e ≡ d ++ x.what ∷ [] → history n ≡ e
-followed m n d e x same more pushed = ap events more ∙ (events_pushed m.entries x ∙ (ap (λ l. l ++ x.what ∷ []) same ∙ sym pushed))

@@ -1,5 +1,5 @@
 //! What a list of what was done tells.
-ghost use Rattle.std.specs.Prelude.{◌≡◌, None, length, IsTrue};
+ghost use Rattle.std.specs.Prelude.{◌≡◌, None, IsTrue};
 ghost use Rattle.host_model.specs.Lists.{count};
 ghost use Rattle.host_model.specs.Releases.{is_close_of};
 ghost use Rattle.host_memory.specs.Held.{closer_of, is_block_of, is_given_by};

@@ -1,5 +1,5 @@
 //! A player makes the calls of a memory that may be made.
-ghost use Rattle.std.specs.Prelude.{◌≡◌, None, ◌+◌, ◌<◌, ◌≤◌, [], length, replicate, vec_capacity, IsTrue, IfOk, IfSome};
+ghost use Rattle.std.specs.Prelude.{◌≡◌, None, ◌+◌, ◌<◌, ◌≤◌, length, replicate, vec_capacity, IsTrue, IfOk, IfSome};
 ghost use Rattle.host_frames.specs.Seats.{contents, page_size, pages_pool, pool_id, seat_pool};
 ghost use Rattle.host_model.specs.Lists.{count};
 ghost use Rattle.host_memory.specs.Entries.{pin_count, used_room};

@@ -1,5 +1,5 @@
 //! Random calls of a memory beside a plain model.
-ghost use Rattle.std.specs.Prelude.{◌≡◌, length};
+ghost use Rattle.std.specs.Prelude.{◌≡◌};
 ghost use Rattle.host_frames.specs.Seats.{page_size, pool_id, seat_pool};
 
 use crate::plain::Plain;

@@ -3,6 +3,7 @@ use Rattle.std.proofs.Common.{◌≡◌, Bool, ℕ, zero, suc, ◌+◌, List, []
 use Rattle.std.specs.Prelude.{unwrap_or}
 use Rattle.std.specs.List.{slice_get}
 use Rattle.host_block.specs.declared.range.Range.{Range}
+use Rattle.host_block.proofs.Places.{in_map, within}
 use Rattle.host_gpt.specs.Table.{IsTable}
 use Rattle.host_part.specs.Ranges.{IsRangeOf}
 use Rattle.host_report.specs.declared.report.Report.{Report}
@@ -16,8 +17,8 @@ use Rattle.host_start.specs.Images.{IsLayoutOn, IsPlaced, parts_of}
 use Rattle.script_model.specs.Plans.{SessionPlan, plans_of}
 use Rattle.host_play.specs.Opened.{spec_for, specs_from}
 use Rattle.host_play.specs.Plays.{IsReportOf}
-use Rattle.session_law.proofs.Finding.{from_map, in_map}
-use Rattle.session_law.proofs.Places.{only_at, some_at, within}
+use Rattle.session_law.proofs.Finding.{from_map}
+use Rattle.session_law.proofs.Places.{only_at, some_at}
 use Rattle.hand_law.proofs.Whole.{all_one}
 use Rattle.report_law.proofs.Shares.{all_by}
 use Rattle.play_law.specs.Runs.{IsLaidOut}

@@ -77,10 +77,6 @@ end_is : (finish : Finish) → is_end_for finish (end_event finish) ≡ true
 end_is Drain = refl
 end_is Abort = refl
 
-end_ends : (finish : Finish) → is_end (end_event finish) ≡ true
-end_ends Drain = refl
-end_ends Abort = refl
-
 first_of : Event → List Event → Event
 first_of d [] = d
 first_of d (e ∷ log) = e

@@ -4,6 +4,7 @@ use Rattle.std.specs.Prelude.{sum_by}
 use Rattle.std.specs.List.{cons_option, slice_get}
 use Rattle.std.specs.Option.{option_map_or}
 use Rattle.std.proofs.lemmas.List.Sums.{sum_by-cons}
+use Rattle.host_block.proofs.Places.{within}
 use Rattle.host_model.specs.declared.event.Event.{Event}
 use Rattle.host_model.specs.declared.event.Event.TheVariants.{Attached}
 use Rattle.host_report.specs.declared.report.Report.{Report}
@@ -14,7 +15,7 @@ use Rattle.host_session.specs.Client.{ClientState}
 use Rattle.host_worker.specs.Accounts.{pages_attached, pages_attached_by, released_of}
 use Rattle.host_worker.specs.Ends.{EndsState, HandEnd, frames_from, shares_in}
 use Rattle.host_worker.specs.Gathered.{IsGathered}
-use Rattle.session_law.proofs.Places.{some_at, within}
+use Rattle.session_law.proofs.Places.{some_at}
 use Rattle.session_law.proofs.Sums.{sum_below, sum_both, sum_none, sum_same}
 use Rattle.hand_law.specs.Pages.{attached_by, taken_from}
 use Rattle.hand_law.proofs.Pages.{pages_come_back}

@@ -4,6 +4,7 @@ use Rattle.std.specs.List.{range_with_len, slice_get}
 use Rattle.std.proofs.lemmas.Bool.{lt-ltb, ltb-false, ltb-true}
 use Rattle.std.proofs.lemmas.List.Elements.{filter-append}
 use Rattle.host_block.specs.Changes.{IsLegal}
+use Rattle.host_block.proofs.Places.{within}
 use Rattle.host_model.specs.declared.step.Step.{Step}
 use Rattle.host_model.specs.Changes.{changes_of}
 use Rattle.host_model.specs.Lists.{implies}
@@ -16,7 +17,7 @@ use Rattle.host_turn.specs.History.{entries_of}
 use Rattle.host_intake.proofs.Readiness.{all_at}
 use Rattle.host_worker.specs.Ends.{EndsState}
 use Rattle.host_worker.specs.Gathered.{IsGathered}
-use Rattle.session_law.proofs.Places.{in_filter, some_at, within}
+use Rattle.session_law.proofs.Places.{in_filter, some_at}
 use Rattle.report_law.specs.Reports.{GatheredReportsAreLawful}
 use Rattle.report_law.specs.Runs.{GatheredRunsAreLawful, IsLawfulOnAnyDisk}
 use Rattle.report_law.proofs.Frames.{frames_home}

@@ -2,6 +2,7 @@
 use Rattle.std.proofs.Common.{◌≡◌, ℕ, zero, suc, ◌<◌, ◌==◌, Bool, true, false, nat_lt, List, [], ◌∷◌, filter, get_or, length, Some, refl, sym, ap, ◌∙◌, arith, eq-eqb}
 use Rattle.std.specs.List.{slice_get}
 use Rattle.std.proofs.lemmas.Bool.{ltb-false, ltb-true}
+use Rattle.host_block.proofs.Places.{within}
 use Rattle.host_model.specs.declared.step.Step.{Step}
 use Rattle.host_model.specs.LawfulSession.{IsLawfulSession}
 use Rattle.host_report.specs.declared.report.Report.{Report}
@@ -14,7 +15,7 @@ use Rattle.host_worker.specs.Gathered.{IsGathered}
 use Rattle.session_law.specs.Gathered.{IsGathered as IsSession}
 use Rattle.session_law.specs.Hands.{steps_in}
 use Rattle.session_law.proofs.Lawful.{sessions_are_lawful}
-use Rattle.session_law.proofs.Places.{in_filter, some_at, within}
+use Rattle.session_law.proofs.Places.{in_filter, some_at}
 use Rattle.hand_law.specs.Hands.{HaveKept}
 use Rattle.hand_law.proofs.Kept.{hands_keep_sessions}
 use Rattle.hand_law.proofs.Whole.{all_one}

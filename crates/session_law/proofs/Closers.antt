@@ -6,6 +6,7 @@ use Rattle.std.proofs.lemmas.Bool.{eqb-true, ltb-false, ltb-true}
 use Rattle.std.proofs.lemmas.List.Quantifiers.{position-Some}
 use Rattle.std.proofs.lemmas.Option.{get_or_from_slice_get}
 use Rattle.host_block.specs.declared.range.Range.{Range}
+use Rattle.host_block.proofs.Places.{within}
 use Rattle.host_record.specs.declared.opcode.Opcode.{Opcode}
 use Rattle.host_record.specs.declared.opcode.Opcode.TheVariants.{Read, Write, Flush, Trim, Close}
 use Rattle.host_record.specs.declared.request.Request.{Request}
@@ -18,7 +19,7 @@ use Rattle.host_model.specs.Verdict.{close_in, closes, is_accepted, is_closed, j
 use Rattle.host_model.proofs.Growth.{length-verdicts_on, verdict_at}
 use Rattle.host_intake.proofs.Accepting.{accepted_attached}
 use Rattle.host_intake.proofs.Leaving.{position_none}
-use Rattle.session_law.proofs.Places.{any_here, within}
+use Rattle.session_law.proofs.Places.{any_here}
 
 -- ---- pairs
 
@@ -81,9 +82,6 @@ closing_from v r d c =
 -- ---- one close alone is accepted
 
 module _ (rs : List Request) (lent : ℕ → ℕ → Option ℕ) (range : Range) where
-  verdict_same : (m n i : ℕ) → i < m → i < n → get_or (verdicts_on rs lent range m) i Accepted ≡ get_or (verdicts_on rs lent range n) i Accepted
-  verdict_same m n i a b = verdict_at rs lent range m i Accepted a ∙ sym (verdict_at rs lent range n i Accepted b)
-
   pub verdict_there : (n i : ℕ) → i < n → slice_get (verdicts_on rs lent range n) i ≡ Some (verdict_after rs lent range (verdicts_on rs lent range i) i)
   verdict_there n i lt = get_some (verdicts_on rs lent range n) i Accepted (let e = length-verdicts_on rs lent range n in omega arith) ∙ ap Some (verdict_at rs lent range n i Accepted lt)
 

@@ -5,6 +5,7 @@ use Rattle.std.specs.List.{slice_get}
 use Rattle.std.specs.Option.{option_map}
 use Rattle.std.proofs.lemmas.List.Elements.{filter-append}
 use Rattle.std.proofs.lemmas.Option.{slice_get-map}
+use Rattle.host_block.proofs.Places.{from_take, within}
 use Rattle.host_model.specs.declared.event.Event.{Event}
 use Rattle.host_model.specs.declared.event.Event.TheVariants.{Attached, NotAttached, Filled, Shown, Sent, Received, Drained, Aborted}
 use Rattle.host_model.specs.declared.memory.MemEntry.{MemEntry}
@@ -15,7 +16,7 @@ use Rattle.host_session.specs.declared.fronts.Fronts.{Fronts}
 use Rattle.host_session.specs.Acts.{Act, IsAct, before_drained, fronts_after, is_drain_event, is_drained, log_of}
 use Rattle.host_session.specs.Client.{AreWithin, ends_logged}
 use Rattle.session_law.proofs.Fronts.{after_act, known_after}
-use Rattle.session_law.proofs.Places.{from_take, in_filter, some_at, within}
+use Rattle.session_law.proofs.Places.{in_filter, some_at}
 use Rattle.session_law.proofs.Taken.{nothing_of}
 
 drain_is : (e : Event) → is_drain_event e ≡ true → e ≡ Drained

@@ -3,6 +3,7 @@ use Rattle.std.proofs.Common.{◌≡◌, ℕ, zero, suc, ◌+◌, ◌<◌, ◌�
 use Rattle.std.specs.Prelude.{unwrap_or}
 use Rattle.std.specs.List.{cons_option, slice_get}
 use Rattle.std.proofs.lemmas.Bool.{eqb-true}
+use Rattle.host_block.proofs.Places.{from_filter, range_at}
 use Rattle.host_record.specs.declared.request.Request.{Request}
 use Rattle.host_record.specs.Command.{is_last}
 use Rattle.host_record.specs.Response.{response_bytes}
@@ -21,7 +22,7 @@ use Rattle.host_intake.specs.Laws.{HaveOutcomes}
 use Rattle.host_intake.specs.Members.{member_at, members}
 use Rattle.host_intake.proofs.EndAnswers.{answer_is, index_within}
 use Rattle.host_intake.proofs.Membering.{member_index}
-use Rattle.session_law.proofs.Finding.{from_filter, from_map, range_at}
+use Rattle.session_law.proofs.Finding.{from_map}
 use Rattle.session_law.proofs.Places.{found_at, has_found}
 use Rattle.session_law.proofs.Sums.{bit, count_one}
 

@@ -5,6 +5,7 @@ use Rattle.std.specs.List.{cons_option, slice_get}
 use Rattle.std.proofs.lemmas.Bool.{eqb-true}
 use Rattle.std.proofs.lemmas.List.{map-append, take-append-drop}
 use Rattle.std.proofs.lemmas.List.Elements.{filter-append, filter_map-append}
+use Rattle.host_block.proofs.Places.{from_filter, from_take, within}
 use Rattle.host_record.specs.declared.opcode.Opcode.{Opcode}
 use Rattle.host_record.specs.declared.opcode.Opcode.TheVariants.{Read, Write, Flush, Trim, Close}
 use Rattle.host_record.specs.declared.request.Request.{Request}
@@ -23,8 +24,7 @@ use Rattle.host_memory.specs.State.{events}
 use Rattle.host_turn.specs.History.{entries_of}
 use Rattle.host_intake.specs.Takings.{made_for, made_under, under}
 use Rattle.host_session.specs.Moves.{moves_by, moves_owed}
-use Rattle.session_law.proofs.Finding.{from_filter}
-use Rattle.session_law.proofs.Places.{from_drop, from_take, in_front, within}
+use Rattle.session_law.proofs.Places.{from_drop, in_front}
 
 -- ---- entries of one record
 

@@ -63,10 +63,6 @@ module _ (h : List MemEntry) (before : List Act) (a : Act) where
   at_place true p e past = let q : a.fronts.memory - 1 ≡ p = cc in (omega arith, omega arith)
   at_place false p e past = absurd (cc)
 
-  no_place : (b : Bool) (p : ℕ) (G : Type 0) → b ≡ false → cond b (Some (a.fronts.memory - 1)) None ≡ Some p → G
-  no_place true p G f e = absurd (cc f)
-  no_place false p G f e = absurd (cc e)
-
   in_entry : (e : Event) → IsEventAfter h before a e → (p : ℕ) → cond (has_entry e) (Some (a.fronts.memory - 1)) None ≡ Some p → ((fronts_after before).memory ≤ p) × (p < a.fronts.memory)
   in_entry (Attached pages id) is p at = at_place true p at is.past
   in_entry (NotAttached pages cause) is p at = absurd (cc)

@@ -41,9 +41,6 @@ greatest_at [] (suc k) n e = absurd (cc)
 greatest_at (m ∷ ns) zero n e = let same : m ≡ n = cc in omega arith
 greatest_at (m ∷ ns) (suc k) n e = let le = greatest_at ns k n e in omega arith
 
-bytes_of : Envelope → List ℕ
-bytes_of e = e.bytes
-
 asked_for : (ts : List Taking) → map request_of (map (λ (e : Envelope). e.bytes) (map envelope_of ts)) ≡ requests_of ts
 asked_for [] = refl
 asked_for (t ∷ ts) = ap (λ l. request_in t ∷ l) (asked_for ts)

@@ -7,6 +7,7 @@ use Rattle.std.proofs.lemmas.Bool.{eqb-true, lt-ltb, ltb-true}
 use Rattle.std.proofs.lemmas.List.{map-append, take-append-drop}
 use Rattle.std.proofs.lemmas.List.Elements.{filter_map-append}
 use Rattle.std.proofs.lemmas.List.FromFn.{length-range_with_len}
+use Rattle.host_block.proofs.Places.{within}
 use Rattle.host_record.specs.declared.request.Request.{Request}
 use Rattle.host_record.specs.Request.{request_of}
 use Rattle.host_model.specs.declared.event.Event.{Event}
@@ -34,7 +35,7 @@ use Rattle.session_law.specs.Hands.{Ended}
 use Rattle.session_law.proofs.Due.{acts_of, answered, answered_by_act, are_answered, asked_count, ls_of, received_right, row_many, sent_before}
 use Rattle.session_law.proofs.Finding.{find_place}
 use Rattle.session_law.proofs.Gathered.{requests_are, ts_of}
-use Rattle.session_law.proofs.Places.{has_found, within}
+use Rattle.session_law.proofs.Places.{has_found}
 use Rattle.session_law.proofs.Prefixes.{answers_before, answers_earlier, owing_from}
 
 -- the requests of the first events are the first of all

@@ -79,9 +79,6 @@ module _ (p : Slip → Bool) where
         ∙ (ap (λ m. cond (was_aborted before) [] (drop m (filter_map kept_by (before ++ e ∷ [])))) n
         ∙ ap (λ m. cond (was_aborted before) [] (drop (count is_passed before) m)) l)
 
-    none_few : (n : ℕ) (l : List Slip) (b : Bool) → count p (kept_in true n l) ≤ count p (kept_in b n l)
-    none_few n l b = omega arith
-
     -- an entry hands on or keeps no more than was kept and than it made due
     step : (e : IntakeEntry) → hits p (slip_in before e) + count p (kept_slips (before ++ e ∷ [])) ≤ count p (kept_slips before) + hits p (made_due e)
     step (Took hand envelope verdict waits seen) = let k = ap (count p) (same_kept (Took hand envelope verdict waits seen) refl refl refl) in omega arith

@@ -7,6 +7,7 @@ use Rattle.std.proofs.lemmas.Bool.{eq-eqb}
 use Rattle.std.proofs.lemmas.List.{length-map}
 use Rattle.std.proofs.lemmas.List.FromFn.{length-range_with_len}
 use Rattle.std.proofs.lemmas.Option.{get_or_from_slice_get, slice_get-map}
+use Rattle.host_block.proofs.Places.{any_at}
 use Rattle.host_intake.specs.Entries.{Landing, Taking, is_landing_of, place_of}
 use Rattle.host_intake.specs.Members.{AreLanded}
 use Rattle.host_intake.specs.Told.{is_open, outcome_in, row_in}
@@ -20,11 +21,7 @@ use Rattle.host_session.specs.Counting.{times}
 use Rattle.host_session.proofs.Counting.{count-map}
 use Rattle.host_session.proofs.Times.{StandsOnce, as_many_pass, count_split, range_once, times-filter}
 use Rattle.session_law.proofs.Lending.{eq_flip}
-use Rattle.session_law.proofs.Places.{any_at}
 use Rattle.session_law.proofs.Sums.{bit, count_one, counted_here}
-
-index_of : Landing → ℕ
-index_of l = l.index
 
 abbrev pub indexes : List Landing → List ℕ
 indexes ls = map (λ (l : Landing). l.index) ls
@@ -48,9 +45,6 @@ find_here p (y ∷ ys) (suc n) x at is few = step (p y) (count_one p y ys) (λ f
 module _ (ts : List Taking) (ls : List Landing) (landed : AreLanded ts ls) where
   n : ℕ
   n = length ts
-
-  has_landed : ℕ → Bool
-  has_landed i = list_any (is_landing_of i) ls
 
   landed_below : List ℕ
   landed_below = filter (λ i. list_any (is_landing_of i) ls) (below (length ts))

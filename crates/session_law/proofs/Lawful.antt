@@ -4,6 +4,7 @@ use Rattle.std.specs.List.{list_all, slice_get}
 use Rattle.std.specs.Option.{option_map_or}
 use Rattle.std.proofs.lemmas.Bool.{eqb-true, lt-ltb}
 use Rattle.std.proofs.lemmas.Option.{get_or_from_slice_get}
+use Rattle.host_block.proofs.Places.{from_filter, in_map, within}
 use Rattle.host_record.specs.declared.status.Status.TheVariants as status
 use Rattle.host_record.specs.Command.{opcode}
 use Rattle.host_model.specs.declared.memory.MemEntry.{MemEntry}
@@ -35,11 +36,10 @@ use Rattle.session_law.proofs.Buffers.{told_so}
 use Rattle.session_law.proofs.Draining.{drains_come_last}
 use Rattle.session_law.proofs.Due.{all_landed, due_so}
 use Rattle.session_law.proofs.Entries.{entries_are, owed}
-use Rattle.session_law.proofs.Finding.{from_filter, in_map}
 use Rattle.session_law.proofs.Gathered.{index_is, taken_whole}
 use Rattle.session_law.proofs.Ordered.{order_kept}
 use Rattle.session_law.proofs.Owners.{client_none, hand_is, own_entry, request_is}
-use Rattle.session_law.proofs.Places.{found_at, in_filter, only_at, some_at, within}
+use Rattle.session_law.proofs.Places.{found_at, in_filter, only_at, some_at}
 use Rattle.session_law.proofs.Released.{entry_at}
 use Rattle.session_law.proofs.Returned.{landing_at, outcome_at}
 use Rattle.session_law.proofs.Taken.{in_order, row_count}

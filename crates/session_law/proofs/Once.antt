@@ -65,9 +65,6 @@ total_inside f g j (x ∷ ms) h = step (x.number == g) (x.instance == j) refl re
     step false c p q (inl z) e = omega (arith, e, z)
     step false c p q (inr y) e = absurd (let w : true ≡ false = sym (eq-eqb x.number g y.0) ∙ p in cc)
 
-one_long : {A : Type 0} (xs : List A) (x : A) → xs ≡ x ∷ [] → length xs ≤ 1
-one_long xs x e = let n = ap length e in omega arith
-
 module _ (ts : List Taking) (ls : List Landing) (seat : CellSeat) (a : AreAllLanded ts ls seat) (z : ℕ) where
   -- a row whose end names the record
   pub record IsNamed (q : Row) : Type 0 where

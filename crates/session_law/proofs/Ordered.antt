@@ -5,6 +5,7 @@ use Rattle.std.specs.List.{slice_get}
 use Rattle.std.specs.Option.{option_eq}
 use Rattle.std.proofs.lemmas.Bool.{eqb-true}
 use Rattle.std.proofs.lemmas.List.{take-map, length-map}
+use Rattle.host_block.proofs.Places.{from_take, in_map}
 use Rattle.host_model.specs.declared.event.Event.{Event}
 use Rattle.host_model.specs.declared.event.Event.TheVariants.{Attached, NotAttached, Filled, Shown, Sent, Received, Drained, Aborted}
 use Rattle.host_model.specs.declared.memory.MemEntry.{MemEntry}
@@ -37,11 +38,10 @@ use Rattle.session_law.specs.Ordering.{OrderKept}
 use Rattle.session_law.proofs.Closers.{IsClosing}
 use Rattle.session_law.proofs.Draining.{drains_come_last}
 use Rattle.session_law.proofs.Due.{all_landed, log_acts}
-use Rattle.session_law.proofs.Finding.{in_map}
 use Rattle.session_law.proofs.Gathered.{course, envelope_at, sent_count, taken_whole}
 use Rattle.session_law.proofs.Had.{IsHad, had}
 use Rattle.session_law.proofs.Owners.{IsCloseEntry, client_none, close_says, close_taken, hand_is, late_release, own_entry, owner_cases, release_place, released_by_taken}
-use Rattle.session_law.proofs.Places.{found_at, from_drop, from_take, has_found, none_told, only_at, some_at, unrank}
+use Rattle.session_law.proofs.Places.{found_at, from_drop, has_found, none_told, only_at, some_at, unrank}
 use Rattle.session_law.proofs.Prefixes.{count_between}
 use Rattle.session_law.proofs.Released.{entry_at, one_release}
 use Rattle.session_law.proofs.Returned.{landing_at}

@@ -29,13 +29,6 @@ is_for i e = option_eq ◌==◌ (index_of e.what) (Some i)
 pub is_for_from : (i : ℕ) (e : MemEntry) → index_of e.what ≡ Some i → is_for i e ≡ true
 is_for_from i e f = ap (λ o. option_eq ◌==◌ o (Some i)) f ∙ eq-eqb i i refl
 
-pub for_says : (i : ℕ) (e : MemEntry) → is_for i e ≡ true → index_of e.what ≡ Some i
-for_says i e f = step (index_of e.what) f
-  where
-    step : (o : Option ℕ) → option_eq ◌==◌ o (Some i) ≡ true → o ≡ Some i
-    step None g = absurd (cc)
-    step (Some j) g = ap Some (eqb-true j i g)
-
 -- ---- counts
 
 count_and : {A : Type 0} (f g : A → Bool) (xs : List A) → count (λ x. f x && g x) xs ≡ count g (filter f xs)

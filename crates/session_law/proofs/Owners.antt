@@ -5,6 +5,7 @@ use Rattle.std.specs.List.{slice_get}
 use Rattle.std.proofs.lemmas.Bool.{eqb-true, ltb-false, ltb-true}
 use Rattle.std.proofs.lemmas.List.{length-map}
 use Rattle.std.proofs.lemmas.Option.{get_or_from_slice_get}
+use Rattle.host_block.proofs.Places.{from_take, in_map, within}
 use Rattle.host_record.specs.declared.finish.Finish.TheVariants.{Drain}
 use Rattle.host_record.specs.declared.opcode.Opcode.{Opcode}
 use Rattle.host_record.specs.declared.opcode.Opcode.TheVariants.{Read, Write, Flush, Trim, Close}
@@ -39,10 +40,9 @@ use Rattle.host_session.specs.Told.{is_by_client, is_release}
 use Rattle.session_law.specs.Gathered.{EndsDrained, IsGathered, ReleaseClosed}
 use Rattle.session_law.proofs.Closers.{IsClosing, close_found, close_is, closes_by, closing_from, closing_says, verdict_there}
 use Rattle.session_law.proofs.Drained.{before_drain}
-use Rattle.session_law.proofs.Finding.{in_map}
 use Rattle.session_law.proofs.Gathered.{closed, course, index_is, requests_are, taken_few, taken_whole, ts_of}
 use Rattle.session_law.proofs.Own.{IsOwn, own_place}
-use Rattle.session_law.proofs.Places.{from_take, in_filter, within}
+use Rattle.session_law.proofs.Places.{in_filter}
 use Rattle.session_law.proofs.Released.{close_place, event_at, left_at, none_there, one_release, released_closed}
 use Rattle.session_law.proofs.Taken.{row_count, sent_verdicts, taken_verdicts}
 
@@ -153,9 +153,6 @@ module _ (client : ClientState) (hands : List SessionHand) (h : List MemEntry) (
   close_says i v t e at =
       let f = close_found (requests s.log) (given_before s.log) s.range v i (sym (close_same v) ∙ e) in
       closing_says v (request_in t) t.verdict (sym (closes_same i v t at) ∙ f.1)
-
-  pub close_sent : (i v : ℕ) → close_of s.log s.range v ≡ Some i → i < length (sent s.log)
-  close_sent i v e = let f = close_found (requests s.log) (given_before s.log) s.range v i (sym (close_same v) ∙ e) in let m = requests_many in let l = f.0 in omega (arith, l, m)
 
   -- ---- who made an entry
 

@@ -1,15 +1,13 @@
 -- Elements of lists, and where they stand.
 use Rattle.std.proofs.Common.{◌≡◌, ℕ, zero, suc, ◌+◌, ◌<◌, ◌≤◌, Bool, true, false, ◌||◌, cond, List, [], ◌∷◌, ◌++◌, length, filter, filter_map, take, drop, Option, Some, None, refl, sym, ap, ◌∙◌, arith, append-nil, append_assoc, length-append}
+use Rattle.std.proofs.Math.Bool.{or-true}
 use Rattle.std.specs.Prelude.{unwrap_or}
 use Rattle.std.specs.List.{cons_option, list_any, slice_get}
 use Rattle.std.proofs.lemmas.List.{take-append-drop, take-take}
 use Rattle.std.proofs.lemmas.List.Elements.{filter_map-append}
+use Rattle.host_block.proofs.Places.{from_take}
 use Rattle.host_model.specs.Lists.{all_after, places_from}
 use Rattle.host_model.proofs.ListTests.{both}
-
-or_true : (b : Bool) → (b || true) ≡ true
-or_true true = refl
-or_true false = refl
 
 module _ {A : Type 0} where
   -- the first elements, up to one that stands there
@@ -32,32 +30,9 @@ module _ {A : Type 0} where
   some_at (x ∷ xs) zero h = (x, refl)
   some_at (x ∷ xs) (suc n) h = some_at xs n (omega arith)
 
-  pub within : (xs : List A) (n : ℕ) (x : A) → slice_get xs n ≡ Some x → n < length xs
-  within [] zero x e = absurd (cc)
-  within [] (suc n) x e = absurd (cc)
-  within (y ∷ ys) zero x e = omega arith
-  within (y ∷ ys) (suc n) x e = let h = within ys n x e in omega arith
-
   -- one element stands at a place
   pub only_at : (xs : List A) (n : ℕ) (x y : A) → slice_get xs n ≡ Some x → slice_get xs n ≡ Some y → x ≡ y
   only_at xs n x y e f = cc
-
-  pub from_take : (xs : List A) (n m : ℕ) (x : A) → slice_get (take n xs) m ≡ Some x → (slice_get xs m ≡ Some x) × (m < n)
-  from_take [] zero zero x e = absurd (cc)
-  from_take [] zero (suc m) x e = absurd (cc)
-  from_take [] (suc n) zero x e = absurd (cc)
-  from_take [] (suc n) (suc m) x e = absurd (cc)
-  from_take (y ∷ ys) zero zero x e = absurd (cc)
-  from_take (y ∷ ys) zero (suc m) x e = absurd (cc)
-  from_take (y ∷ ys) (suc n) zero x e = (e, omega arith)
-  from_take (y ∷ ys) (suc n) (suc m) x e = let r = from_take ys n m x e in (r.0, (let h = r.1 in omega arith))
-
-  pub in_take : (xs : List A) (n m : ℕ) (x : A) → m < n → slice_get xs m ≡ Some x → slice_get (take n xs) m ≡ Some x
-  in_take [] n zero x h e = absurd (cc)
-  in_take [] n (suc m) x h e = absurd (cc)
-  in_take (y ∷ ys) zero m x h e = absurd (omega arith)
-  in_take (y ∷ ys) (suc n) zero x h e = e
-  in_take (y ∷ ys) (suc n) (suc m) x h e = in_take ys n m x (omega arith) e
 
   -- an element of the first list stands in both together
   pub in_front : (xs ys : List A) (n : ℕ) (x : A) → slice_get xs n ≡ Some x → slice_get (xs ++ ys) n ≡ Some x
@@ -84,15 +59,7 @@ module _ {A : Type 0} where
   any_here p [] zero x e y = absurd (cc)
   any_here p [] (suc n) x e y = absurd (cc)
   any_here p (z ∷ zs) zero x e y = ap (λ b. b || list_any p zs) (ap (λ (o : Option A). p (unwrap_or o z)) e ∙ y)
-  any_here p (z ∷ zs) (suc n) x e y = ap (λ b. p z || b) (any_here p zs n x e y) ∙ or_true (p z)
-
-  pub any_at : (p : A → Bool) (xs : List A) → list_any p xs ≡ true → (n : ℕ) × (x : A) × (slice_get xs n ≡ Some x) × (p x ≡ true)
-  any_at p [] e = absurd (cc)
-  any_at p (z ∷ zs) e = step (p z) refl e (λ h. any_at p zs h)
-    where
-      step : (b : Bool) → p z ≡ b → (b || list_any p zs) ≡ true → (list_any p zs ≡ true → (n : ℕ) × (x : A) × (slice_get zs n ≡ Some x) × (p x ≡ true)) → (n : ℕ) × (x : A) × (slice_get (z ∷ zs) n ≡ Some x) × (p x ≡ true)
-      step true y e more = (0, z, refl, y)
-      step false y e more = let r = more e in (suc r.0, r.1, r.2, r.3)
+  any_here p (z ∷ zs) (suc n) x e y = ap (λ b. p z || b) (any_here p zs n x e y) ∙ or-true (p z)
 
   -- the element at a place passes with those before it
   after_at : (test : List A → A → Bool) (before xs : List A) (n : ℕ) (x : A) → all_after test before xs ≡ true → slice_get xs n ≡ Some x → test (before ++ take n xs) x ≡ true

@@ -5,6 +5,7 @@ use Rattle.std.specs.List.{cons_option, slice_get}
 use Rattle.std.proofs.lemmas.Bool.{ltb-true}
 use Rattle.std.proofs.lemmas.List.{take-append-drop, take-map, take_at}
 use Rattle.std.proofs.lemmas.List.Elements.{filter_map-append}
+use Rattle.host_block.proofs.Places.{from_take}
 use Rattle.host_model.specs.declared.event.Event.{Event}
 use Rattle.host_model.specs.declared.event.Event.TheVariants.{Attached, NotAttached, Filled, Shown, Sent, Received, Drained, Aborted}
 use Rattle.host_model.specs.declared.memory.MemEntry.{MemEntry}
@@ -13,15 +14,12 @@ use Rattle.host_model.proofs.ListTests.{both}
 use Rattle.host_record.specs.Response.{response_of}
 use Rattle.host_rings.specs.declared.slip.Slip.{Slip}
 use Rattle.host_session.specs.Acts.{Act, IsAct, IsEventAfter, log_of, slips_of}
-use Rattle.session_law.proofs.Places.{found_at, from_take}
-use Rattle.session_law.proofs.Sending.{sent_until}
+use Rattle.session_law.proofs.Places.{found_at}
+use Rattle.session_law.proofs.Sending.{none_is, sent_until}
 
 none_is : {B : Type 0} (o : Option B) → o ≡ None → is_some o ≡ false
 none_is None e = refl
 none_is (Some x) e = absurd (cc)
-
-not_some : {B : Type 0} (o : Option B) (x : B) (G : Type 0) → o ≡ None → o ≡ Some x → G
-not_some o x G e f = absurd (cc)
 
 module _ (h : List MemEntry) (before : List Act) (a : Act) where
   -- a slip comes with an answer, and with nothing else
@@ -39,20 +37,20 @@ module _ (h : List MemEntry) (before : List Act) (a : Act) where
 
   -- it answers a record that was sent before
   slip_before : (x : Slip) → a.slip ≡ Some x → (e : Event) → IsEventAfter h before a e → x.index < length (sent (log_of before))
-  slip_before x at (Attached pages id) is = not_some a.slip x (x.index < length (sent (log_of before))) is.plain.slip at
-  slip_before x at (NotAttached pages cause) is = not_some a.slip x (x.index < length (sent (log_of before))) is.slip at
-  slip_before x at (Filled id block count byte true) is = not_some a.slip x (x.index < length (sent (log_of before))) is.plain.slip at
-  slip_before x at (Filled id block count byte false) is = not_some a.slip x (x.index < length (sent (log_of before))) is.plain.slip at
-  slip_before x at (Shown id block count true bytes) is = not_some a.slip x (x.index < length (sent (log_of before))) is.plain.slip at
-  slip_before x at (Shown id block count false bytes) is = not_some a.slip x (x.index < length (sent (log_of before))) is.plain.slip at
-  slip_before x at (Sent index bytes) is = not_some a.slip x (x.index < length (sent (log_of before))) is.slip at
+  slip_before x at (Attached pages id) is = none_is a.slip x (x.index < length (sent (log_of before))) is.plain.slip at
+  slip_before x at (NotAttached pages cause) is = none_is a.slip x (x.index < length (sent (log_of before))) is.slip at
+  slip_before x at (Filled id block count byte true) is = none_is a.slip x (x.index < length (sent (log_of before))) is.plain.slip at
+  slip_before x at (Filled id block count byte false) is = none_is a.slip x (x.index < length (sent (log_of before))) is.plain.slip at
+  slip_before x at (Shown id block count true bytes) is = none_is a.slip x (x.index < length (sent (log_of before))) is.plain.slip at
+  slip_before x at (Shown id block count false bytes) is = none_is a.slip x (x.index < length (sent (log_of before))) is.plain.slip at
+  slip_before x at (Sent index bytes) is = none_is a.slip x (x.index < length (sent (log_of before))) is.slip at
   slip_before x at (Received bytes) is =
       let same : is.received ≡ x = ap (λ (o : Option Slip). unwrap_or o x) (sym is.slip ∙ at) in
       let lt : is.received.index < length (sent (log_of before)) = ltb-true is.received.index (length (sent (log_of before))) (both (nat_lt is.received.index (length (sent (log_of before)))) (is_some (response_of is.received.bytes)) is.answer).0 in
       let index : is.received.index ≡ x.index = ap (λ (s : Slip). s.index) same in
       omega (arith, lt, index)
-  slip_before x at Drained is = not_some a.slip x (x.index < length (sent (log_of before))) is.plain.slip at
-  slip_before x at Aborted is = not_some a.slip x (x.index < length (sent (log_of before))) is.slip at
+  slip_before x at Drained is = none_is a.slip x (x.index < length (sent (log_of before))) is.plain.slip at
+  slip_before x at Aborted is = none_is a.slip x (x.index < length (sent (log_of before))) is.slip at
 
 -- as many answers as slips
 as_many : (xs : List Act) → ((n : ℕ) (a : Act) → slice_get xs n ≡ Some a → is_some a.slip ≡ is_some (received_bytes a.event)) → length (received (log_of xs)) ≡ length (slips_of xs)

@@ -7,6 +7,7 @@ use Rattle.std.specs.Option.{option_map}
 use Rattle.std.proofs.lemmas.Bool.{eqb-true, ltb-false, ltb-true}
 use Rattle.std.proofs.lemmas.Option.{slice_get-map}
 use Rattle.host_block.specs.declared.range.Range.{Range}
+use Rattle.host_block.proofs.Places.{from_take, in_take}
 use Rattle.host_record.specs.declared.opcode.Opcode.{Opcode}
 use Rattle.host_record.specs.declared.opcode.Opcode.TheVariants.{Read, Write, Flush, Trim, Close}
 use Rattle.host_record.specs.Command.{opcode}
@@ -24,7 +25,7 @@ use Rattle.host_turn.specs.History.{entries_of}
 use Rattle.host_intake.specs.Entries.{Taking, place_of, request_in}
 use Rattle.host_intake.specs.Takings.{AreTaken, left_by, made, made_for, made_under, under}
 use Rattle.session_law.specs.Gathered.{ReleaseClosed}
-use Rattle.session_law.proofs.Places.{any_here, found_at, from_part, from_take, in_filter, in_take, with_before_at}
+use Rattle.session_law.proofs.Places.{any_here, found_at, from_part, in_filter, with_before_at}
 
 -- ---- events and entries
 

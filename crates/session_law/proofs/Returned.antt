@@ -4,6 +4,7 @@ use Rattle.std.specs.Prelude.{unwrap_or}
 use Rattle.std.specs.List.{list_any, slice_get}
 use Rattle.std.proofs.lemmas.Bool.{eqb-true, leb-true, ltb-false, ltb-true}
 use Rattle.std.proofs.lemmas.List.{get_or_past, length-map}
+use Rattle.host_block.proofs.Places.{any_at, in_map, range_at}
 use Rattle.host_record.specs.declared.request.Request.{Request}
 use Rattle.host_record.specs.Command.{is_grouped}
 use Rattle.host_record.specs.Request.{request_of}
@@ -26,10 +27,10 @@ use Rattle.host_intake.specs.Members.{AreInCells, AreLanded, Ending, backs, is_m
 use Rattle.host_intake.specs.Told.{is_open, row_in}
 use Rattle.host_session.proofs.Times.{range_once}
 use Rattle.session_law.proofs.Ends.{in_ends, in_members_of, member_says, member_there}
-use Rattle.session_law.proofs.Finding.{from_map, in_map, in_reverse, range_at}
+use Rattle.session_law.proofs.Finding.{from_map, in_reverse}
 use Rattle.session_law.proofs.Landings.{find_here, landing_taken, outcome_is, row_outcome}
 use Rattle.session_law.proofs.Lending.{eq_flip}
-use Rattle.session_law.proofs.Places.{any_at, in_filter, some_at}
+use Rattle.session_law.proofs.Places.{in_filter, some_at}
 use Rattle.session_law.proofs.Sums.{count_within, counted_none}
 
 -- All records taken have ended, and all rights came back.

@@ -7,6 +7,7 @@ use Rattle.std.specs.Option.{option_map}
 use Rattle.std.proofs.lemmas.Bool.{eqb-true, le-leb, leb-true, lt-ltb, ltb-true}
 use Rattle.std.proofs.lemmas.List.{length-map}
 use Rattle.std.proofs.lemmas.Slice.Eq.{bytes_eq-Decides}
+use Rattle.host_block.proofs.Places.{in_map}
 use Rattle.host_record.specs.declared.request.Request.{Request}
 use Rattle.host_record.specs.Command.{is_last}
 use Rattle.host_model.specs.declared.row.TakenRow.{TakenRow}
@@ -28,7 +29,6 @@ use Rattle.host_intake.specs.Entries.{Landing, Taking, is_landing_of, requests_o
 use Rattle.host_intake.specs.Members.{Ending, is_of_member, member_at, members}
 use Rattle.host_intake.specs.Told.{row_in}
 use Rattle.session_law.proofs.Ends.{closer, closes_it, in_members_of, member_says, member_there, slip_is, slip_within}
-use Rattle.session_law.proofs.Finding.{in_map}
 use Rattle.session_law.proofs.Gathered.{greatest_at}
 use Rattle.session_law.proofs.Handing.{answers_of}
 use Rattle.session_law.proofs.Landings.{found_landing, landing_taken}

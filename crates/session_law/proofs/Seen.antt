@@ -22,10 +22,6 @@ use Rattle.session_law.proofs.Spots.{told_count}
 -- ---- those that pass, up to a place
 
 module _ {A : Type 0} (p : A → Bool) where
-  take_none : (n : ℕ) → take {A = A} n [] ≡ []
-  take_none zero = refl
-  take_none (suc n) = refl
-
   not_before : (a : ℕ) (xs : List A) (j m : ℕ) → slice_get (places_from a p xs) j ≡ Some m → a ≤ m
   not_before a xs j m at = let u = unrank p a xs j m at in let e = u.2 in omega arith
 

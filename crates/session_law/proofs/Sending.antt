@@ -49,7 +49,7 @@ one_sent acts n a bytes at is =
 
 -- ---- one act
 
-none_is : {B : Type 0} (o : Option B) (x : B) (G : Type 0) → o ≡ None → o ≡ Some x → G
+pub none_is : {B : Type 0} (o : Option B) (x : B) (G : Type 0) → o ≡ None → o ≡ Some x → G
 none_is o x G e f = absurd (cc)
 
 -- an envelope comes with a record, and has its index

@@ -5,6 +5,7 @@ use Rattle.std.specs.List.{slice_get}
 use Rattle.std.proofs.lemmas.Bool.{leb-true}
 use Rattle.std.proofs.lemmas.List.{length-map}
 use Rattle.std.proofs.lemmas.List.Elements.{filter-append}
+use Rattle.host_block.proofs.Places.{any_at, from_take}
 use Rattle.host_intake.specs.Entries.{Taking, landings, request_in, requests_of}
 use Rattle.host_intake.specs.Laws.{Lends}
 use Rattle.host_intake.specs.Takings.{judged_on}
@@ -38,7 +39,6 @@ use Rattle.session_law.specs.Taking.{TakenInOrder}
 use Rattle.session_law.proofs.Draining.{drains_come_last}
 use Rattle.session_law.proofs.Gathered.{closed, course, envelope_at, es_of, front_past, index_is, log_same, requests_are, taken_few, taken_whole, ts_of}
 use Rattle.session_law.proofs.Lending.{attached_once, few_before, is_attached_for, lent_before, lent_by_log}
-use Rattle.session_law.proofs.Places.{any_at, from_take}
 use Rattle.session_law.proofs.Released.{closed_still, entry_at, release_is, released_closed}
 use Rattle.session_law.proofs.Sending.{attached_before}
 

@@ -7,6 +7,7 @@ use Rattle.std.proofs.lemmas.Bool.{lt-ltb, ltb-false, ltb-true}
 use Rattle.std.proofs.lemmas.List.{get_or_past, length-map, take-append-drop, take-map}
 use Rattle.std.proofs.lemmas.List.Elements.{filter_map-append}
 use Rattle.std.proofs.lemmas.Option.{get_or_from_slice_get}
+use Rattle.host_block.proofs.Places.{any_at, from_take, within}
 use Rattle.host_memory.specs.Held.{has_blocks, is_released}
 use Rattle.host_memory.specs.State.{events}
 use Rattle.host_model.specs.declared.event.Event.{Event}
@@ -35,7 +36,7 @@ use Rattle.session_law.proofs.Draining.{drains_come_last}
 use Rattle.session_law.proofs.Finding.{from_map}
 use Rattle.session_law.proofs.Gathered.{course, envelope_at, index_is, log_same, taken_whole, ts_of}
 use Rattle.session_law.proofs.Owners.{IsCloseEntry, close_taken, late_release, released_by_taken}
-use Rattle.session_law.proofs.Places.{any_at, any_here, fewer_told, found_at, from_drop, from_take, has_found, only_at, rank, told_here as told_more, unrank, with_before_at, within}
+use Rattle.session_law.proofs.Places.{any_here, fewer_told, found_at, from_drop, has_found, only_at, rank, told_here as told_more, unrank, with_before_at}
 use Rattle.session_law.proofs.Released.{entry_at, events_take, release_is}
 use Rattle.session_law.proofs.Seen.{blocks_held, blocks_told, cut_places, told_first, told_here}
 use Rattle.session_law.proofs.Sending.{fronts_of, more_sent, sent_by, sent_until}

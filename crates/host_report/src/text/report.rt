@@ -1,5 +1,5 @@
 // The text of a report.
-ghost use Rattle.std.specs.Prelude.{◌≡◌, length};
+ghost use Rattle.std.specs.Prelude.{◌≡◌};
 ghost use Rattle.host_gpt.specs.declared.which.Which.{Which};
 ghost use Rattle.host_io.specs.Causes.{HasCause};
 ghost use Rattle.host_text.specs.Printed.{printed};

@@ -1,4 +1,4 @@
-use Rattle.std.proofs.Common.{◌∷◌, [], refl, sym, subst}
+use Rattle.std.proofs.Common.{◌∷◌, [], sym, subst}
 use Rattle.host_block.specs.declared.op.Op.{Op}
 use Rattle.host_block.specs.declared.op.Op.TheVariants.{Trim}
 use Rattle.host_turn.specs.Seats.{seen_by}

@@ -1,4 +1,4 @@
-use Rattle.std.proofs.Common.{◌≡◌, ◌≤◌, ℕ, length, refl, sym, ap, ◌∙◌, arith}
+use Rattle.std.proofs.Common.{length, sym, ◌∙◌, arith}
 use Rattle.host_turn.specs.Seats.{seen_by}
 use Rattle.host_hand.proofs.BlockAfter.{run_none}
 use Rattle.host_hand.proofs.BlockSeats.{blocks_more, blocks_stopped, same_refl, same_trans}

@@ -1,4 +1,4 @@
-use Rattle.std.proofs.Common.{◌≡◌, ◌≤◌, length, Ok}
+use Rattle.std.proofs.Common.{Ok}
 use Rattle.host_turn.specs.Seats.{IsOutside, IsSameSeat, seen_by}
 use Rattle.host_hand.specs.Blocks.{HoldsFor}
 use Rattle.host_hand.specs.Errands.{asks_upto}

@@ -1,4 +1,4 @@
-use Rattle.std.proofs.Common.{◌≡◌, ◌∷◌, [], ℕ, List, refl, sym, ap, subst, ◌∙◌}
+use Rattle.std.proofs.Common.{◌∷◌, [], sym, ap, ◌∙◌}
 use Rattle.host_block.specs.declared.op.Op.TheVariants.{Read}
 use Rattle.host_memory.specs.Held.{is_block_of}
 use Rattle.host_memory.specs.State.{history}

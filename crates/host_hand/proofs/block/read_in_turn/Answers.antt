@@ -1,7 +1,6 @@
-use Rattle.std.proofs.Common.{◌≡◌, ◌++◌, ◌∷◌, [], ℕ, List, length, refl, sym, ap, subst, ◌∙◌, arith}
+use Rattle.std.proofs.Common.{◌≡◌, ◌++◌, ◌∷◌, [], length, sym, ap, ◌∙◌, arith}
 use Rattle.host_block.specs.declared.op.Op.TheVariants.{Read}
 use Rattle.host_memory.specs.State.{MemoryState}
-use Rattle.host_model.specs.declared.memory.MemEntry.{MemEntry}
 use Rattle.host_model.specs.declared.memory.MemEvent.TheVariants.{Land}
 use Rattle.host_turn.specs.Seats.{seen_by}
 use Rattle.host_hand.specs.Errands.{ask_at}

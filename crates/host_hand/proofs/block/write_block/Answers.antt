@@ -1,4 +1,4 @@
-use Rattle.std.proofs.Common.{◌≡◌, ◌∷◌, [], ℕ, List, length, refl, sym, ap, subst, ◌∙◌, arith}
+use Rattle.std.proofs.Common.{refl, ◌∙◌}
 use Rattle.host_block.specs.declared.op.Op.TheVariants.{Write}
 use Rattle.host_turn.specs.Seats.{seen_by}
 use Rattle.host_hand.specs.Errands.{ask_at}

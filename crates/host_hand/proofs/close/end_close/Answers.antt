@@ -1,5 +1,5 @@
 -- The close that was found has landed.
-use Rattle.std.proofs.Common.{◌≡◌, List, sym, subst}
+use Rattle.std.proofs.Common.{List, sym, subst}
 use Rattle.host_intake.specs.declared.entry.IntakeEntry.{IntakeEntry}
 use Rattle.host_intake.specs.Entries.{maker_of}
 use Rattle.host_turn.specs.History.{Continues}

@@ -1,9 +1,6 @@
-use Rattle.std.proofs.Common.{◌≡◌, ◌≤◌, ℕ, List, length, refl, sym, ap, subst, ◌∙◌}
+use Rattle.std.proofs.Common.{length, sym, ap, ◌∙◌}
 use Rattle.host_frames.specs.Seats.{pool_id}
-use Rattle.host_memory.specs.Held.{page_count_of}
-use Rattle.host_memory.specs.State.{MemoryState, history, size_of}
-use Rattle.host_model.specs.declared.memory.MemEntry.{MemEntry}
-use Rattle.host_turn.specs.History.{Continues}
+use Rattle.host_memory.specs.State.{size_of}
 use Rattle.host_turn.specs.Seats.{number, seen_by}
 use Rattle.host_hand.proofs.HoldGone.{done_entries, let_go_of, pages_here}
 use Rattle.host_hand.proofs.HoldPins.{entered_as, held_still, pinned_now}

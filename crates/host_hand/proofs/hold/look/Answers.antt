@@ -1,6 +1,5 @@
-use Rattle.std.proofs.Common.{◌≡◌, ℕ, List, refl, sym, subst, ◌∙◌}
+use Rattle.std.proofs.Common.{sym, ◌∙◌}
 use Rattle.host_model.specs.declared.memory.MemEntry.{MemEntry}
-use Rattle.host_turn.specs.History.{Continues}
 use Rattle.host_turn.specs.Seats.{number, seen_by}
 use Rattle.host_hand.proofs.Growing.{grown_nothing}
 use Rattle.host_hand.proofs.HoldPins.{entered_as}

@@ -1,8 +1,7 @@
 -- What the hand found, as its seats have seen it.
-use Rattle.std.proofs.Common.{◌≡◌, ◌≤◌, List, length, arith, refl, sym, ap, subst, ◌∙◌}
+use Rattle.std.proofs.Common.{length, arith, sym, ap, subst}
 use Rattle.host_frames.specs.Seats.{pool_id}
 use Rattle.host_group.specs.Seats.{cells_id}
-use Rattle.host_intake.specs.declared.entry.IntakeEntry.{IntakeEntry}
 use Rattle.host_intake.specs.Entries.{maker_of, takings}
 use Rattle.host_turn.specs.History.{Continues}
 use Rattle.host_turn.specs.Seats.{number, seen_by}

@@ -1,5 +1,5 @@
 -- What the hand found, within the turn.
-use Rattle.std.proofs.Common.{◌≡◌, false, length, refl, sym, ap, subst, ◌∙◌}
+use Rattle.std.proofs.Common.{length, refl, sym, ap, subst, ◌∙◌}
 use Rattle.host_frames.specs.Seats.{pool_id}
 use Rattle.host_group.specs.Seats.{cells_id}
 use Rattle.host_intake.specs.declared.entry.IntakeEntry.TheVariants.{Passed}

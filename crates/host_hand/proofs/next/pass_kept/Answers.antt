@@ -1,5 +1,5 @@
 -- Where no answer is kept, there is nothing to hand on.
-use Rattle.std.proofs.Common.{◌≡◌, List, [], ◌∷◌, Option, Some, None, refl, sym, inl}
+use Rattle.std.proofs.Common.{◌≡◌, List, [], ◌∷◌, None, refl, sym, inl}
 use Rattle.std.specs.Prelude.{slice_get}
 use Rattle.host_hand.proofs.next.pass_kept.Goals as goal
 

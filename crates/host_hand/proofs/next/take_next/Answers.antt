@@ -3,19 +3,17 @@ use Rattle.std.proofs.Common.{◌≡◌, false, refl, sym, ap, subst, ◌∙◌,
 use Rattle.std.specs.List.{list_any}
 use Rattle.host_frames.specs.Seats.{pool_id}
 use Rattle.host_group.specs.Seats.{cells_id}
-use Rattle.host_intake.specs.Entries.{Taking, place_of, request_in}
+use Rattle.host_intake.specs.Entries.{place_of}
 use Rattle.host_intake.specs.State.{IntakeState}
-use Rattle.host_intake.specs.Takings.{IsJudged}
 use Rattle.host_memory.specs.Pins.{is_done_for}
 use Rattle.host_memory.specs.State.{events}
 use Rattle.host_record.specs.Command.{opcode}
 use Rattle.host_record.specs.Request.{request_of}
 use Rattle.host_rings.specs.declared.envelope.Envelope.{Envelope}
 use Rattle.host_turn.specs.History.{entries_of}
-use Rattle.host_turn.specs.Seats.{fixed_part, number, seen_by}
+use Rattle.host_turn.specs.Seats.{number, seen_by}
 use Rattle.host_hand.specs.Buffers.{IsOfPool}
 use Rattle.host_hand.specs.Visits.{at_limit, finished, no_record, stalled}
-use Rattle.host_hand.specs.WorkKinds.{next_for, work_for}
 use Rattle.host_hand.specs.Jobs.{IsNext}
 use Rattle.host_hand.proofs.Jobbed.{accepted_some, admitted_next, idle_next, refused_next}
 use Rattle.host_hand.proofs.next.take_next.Goals as goal

@@ -1,5 +1,5 @@
 -- The job is carried out, settled and landed, and the hand keeps the session.
-use Rattle.std.proofs.Common.{◌≡◌, ◌+◌, sym, ap, subst, ◌∙◌, arith}
+use Rattle.std.proofs.Common.{sym, ap, subst, ◌∙◌, arith}
 use Rattle.host_frames.specs.Seats.{pool_id}
 use Rattle.host_group.specs.Seats.{cells_id}
 use Rattle.host_rings.specs.AnswerEnds.{SlipSenderState}
