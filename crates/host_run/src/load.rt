@@ -8,7 +8,7 @@ ghost use Rattle.host_run.specs.Played.{IsComplete, Leaves};
 ghost use Rattle.host_run.specs.Refusals.{refusal_line};
 ghost use Rattle.host_run.specs.Statuses.{HandsOut, HasRunReport, IsServedAs};
 ghost use Rattle.host_run.specs.Words.{IsMakeable, text_of};
-ghost use Rattle.host_run.specs.Writes.{PutsText};
+ghost use Rattle.host_run.specs.Writes.{PutsText, TellsRun};
 ghost use Rattle.host_run.specs.declared.status.RunStatus.TheVariants.{BadWords, DiskFault, ScriptFault, SinkFault};
 
 use crate::mode::Mode;
@@ -51,7 +51,7 @@ pub fn load<R: Threads + Wait + Sync, D: Disk + Send, K: Sink, G: Gate + Sync>(
     ensures report { HasRunReport result.status result.report }
     ensures served { IsServedAs result.served result.report }
     ensures dry { HandsOut mode.dry result.dry result.status result.report }
-    ensures text { IfSome result.report (λ report. PutsText (K.tells out.old) (K.appended out.old) (K.appended out.new) (K.faults out.old) (K.faults out.new) (text_of mode.text report)) }
+    ensures text { IfSome result.report (λ report. TellsRun (K.tells out.old) (K.appended out.old) (K.appended out.new) (K.faults out.old) (K.faults out.new) (text_of mode.text report) result.status) }
     ensures line { IfNone result.report (PutsText (K.tells out.old) (K.appended out.old) (K.appended out.new) (K.faults out.old) (K.faults out.new) (refusal_line result.status)) }
 {
     match make_script(alloc, seed, sessions, requests, size) {

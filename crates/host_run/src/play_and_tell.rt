@@ -8,7 +8,7 @@ ghost use Rattle.host_run.specs.Played.{IsComplete, Leaves};
 ghost use Rattle.host_run.specs.Refusals.{refusal_line};
 ghost use Rattle.host_run.specs.Statuses.{HandsOut, HasRunReport, IsServedAs};
 ghost use Rattle.host_run.specs.Words.{text_of};
-ghost use Rattle.host_run.specs.Writes.{PutsText};
+ghost use Rattle.host_run.specs.Writes.{PutsText, TellsRun};
 ghost use Rattle.host_run.specs.declared.status.RunStatus.TheVariants.{BadWords, DiskFault, ScriptFault, SinkFault};
 ghost use Rattle.host_start.specs.Reading.{IsFit};
 ghost use Rattle.host_worker.specs.Gathered.{reported};
@@ -58,7 +58,7 @@ pub fn play_and_tell<R: Threads + Wait + Sync, D: Disk + Send, K: Sink, G: Gate 
     ensures report { HasRunReport result.status result.report }
     ensures served { IsServedAs result.served result.report }
     ensures dry { HandsOut mode.dry result.dry result.status result.report }
-    ensures text { IfSome result.report (λ report. PutsText (K.tells out.old) (K.appended out.old) (K.appended out.new) (K.faults out.old) (K.faults out.new) (text_of mode.text report)) }
+    ensures text { IfSome result.report (λ report. TellsRun (K.tells out.old) (K.appended out.old) (K.appended out.new) (K.faults out.old) (K.faults out.new) (text_of mode.text report) result.status) }
     ensures line { IfNone result.report (PutsText (K.tells out.old) (K.appended out.old) (K.appended out.new) (K.faults out.old) (K.faults out.new) (refusal_line result.status)) }
 {
     match play_script(rt, alloc, script, image, size, mode, disk, gate) {

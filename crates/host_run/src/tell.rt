@@ -3,7 +3,7 @@ ghost use Rattle.std.specs.Prelude.{◌≡◌, Some};
 ghost use Rattle.host_io.specs.Causes.{HasCause, Rose};
 ghost use Rattle.host_run.specs.Statuses.{HasRunReport, IsEndStatus, played_status};
 ghost use Rattle.host_run.specs.Words.{text_of};
-ghost use Rattle.host_run.specs.Writes.{PutsText};
+ghost use Rattle.host_run.specs.Writes.{TellsRun};
 ghost use Rattle.host_run.specs.declared.status.RunStatus.TheVariants.{SinkFault};
 ghost use Rattle.host_text.specs.Writing.{Writes};
 
@@ -23,7 +23,7 @@ pub fn tell<D, K: Sink>(run: PlayedRun<D>, text: Text, out: &mut K) -> Outcome<D
     ensures dry { result.dry ≡ run.dry }
     ensures report { result.report ≡ Some run.report }
     ensures served { result.served ≡ Some run.served }
-    ensures text { PutsText (K.tells out.old) (K.appended out.old) (K.appended out.new) (K.faults out.old) (K.faults out.new) (text_of text run.report) }
+    ensures text { TellsRun (K.tells out.old) (K.appended out.old) (K.appended out.new) (K.faults out.old) (K.faults out.new) (text_of text run.report) result.status }
 {
     let was_written = put_text(&run.report, text, out).is_ok();
     Outcome {

@@ -10,7 +10,7 @@ ghost use Rattle.host_run.specs.Played.{IsComplete, IsLawfulOn, KeepsWhatWasFlus
 ghost use Rattle.host_run.specs.Refusals.{refusal_line};
 ghost use Rattle.host_run.specs.Statuses.{HandsOut, HasReport, IsServedAs};
 ghost use Rattle.host_run.specs.Words.{listing_in, making_in, playing_in, plays_on_disk, reads_script, text_of};
-ghost use Rattle.host_run.specs.Writes.{PutsText};
+ghost use Rattle.host_run.specs.Writes.{PutsText, TellsRun};
 ghost use Rattle.host_run.specs.declared.status.RunStatus.TheVariants.{BadWords, DiskFault, Done, OutOfMemory, ScriptFault, SinkFault};
 ghost use Rattle.host_words.specs.Commands.{command_of};
 
@@ -81,7 +81,7 @@ pub fn run<'a, R: Threads + Wait + Sync, S: Source, D: Disk + Send, K: Sink, G: 
     ensures no_dry { playing_in (command_of (map (λ w. w.now) words.entry.now)) ≡ None → result.dry ≡ None }
 
     // What was put.
-    ensures text { IfSome (playing_in (command_of (map (λ w. w.now) words.entry.now))) (λ playing. IfSome result.report (λ report. PutsText (K.tells out.old) (K.appended out.old) (K.appended out.new) (K.faults out.old) (K.faults out.new) (text_of playing.told report))) }
+    ensures text { IfSome (playing_in (command_of (map (λ w. w.now) words.entry.now))) (λ playing. IfSome result.report (λ report. TellsRun (K.tells out.old) (K.appended out.old) (K.appended out.new) (K.faults out.old) (K.faults out.new) (text_of playing.told report) result.status)) }
     ensures line { IfNone result.report (result.status ≢ Done → result.status ≢ SinkFault → PutsText (K.tells out.old) (K.appended out.old) (K.appended out.new) (K.faults out.old) (K.faults out.new) (refusal_line result.status)) }
     ensures list { IfSome (listing_in (command_of (map (λ w. w.now) words.entry.now))) (λ listing. ListLeaves (record { disk_tells = (D.shape disk).tells; image = D.image_named disk listing.name listing.size; size = listing.size; tells = K.tells out.old; old = K.appended out.old; new = K.appended out.new; faults = K.faults out.old; new_faults = K.faults out.new }) result.status) }
     ensures make { IfSome (making_in (command_of (map (λ w. w.now) words.entry.now))) (λ making. PutsScript (K.tells out.old) (K.appended out.old) (K.appended out.new) (K.faults out.old) (K.faults out.new) making result.status) }
