@@ -1,13 +1,12 @@
 -- What a call leaves, in terms of the words that ask for it.
-use Rattle.std.proofs.Common.{◌≡◌, ◌≢◌, inl, ℕ, Option, Some, None, refl, subst, sym}
+use Rattle.std.proofs.Common.{◌≡◌, ◌≢◌, Option, Some, None, refl, subst, sym}
 use Rattle.std.specs.Prelude.{IfNone, IfSome}
 use Rattle.host_report.specs.declared.report.Report.{Report}
-use Rattle.host_run.specs.Ending.{Call, Ends, Origin, SaysOfOrigin, made, read}
 use Rattle.host_run.specs.Listed.{ListLeaves, Listing}
 use Rattle.host_run.specs.Made.{IsMakeStatus}
 use Rattle.host_run.specs.Refusals.{refusal_line, refused_status}
 use Rattle.host_run.specs.Statuses.{HasReport, HasRunReport}
-use Rattle.host_run.specs.Words.{Making, Playing, TableOf}
+use Rattle.host_run.specs.Words.{Making, TableOf}
 use Rattle.host_run.specs.Writes.{PutsText}
 use Rattle.host_run.specs.declared.refusal.Refusal.{Refusal}
 use Rattle.host_run.specs.declared.refusal.Refusal.TheVariants as refusal
@@ -42,7 +41,7 @@ oom_report None None s report is none = refused_run s report (refusal.NoStart er
 
 -- ---- the line of a refused list
 
-pub listed_line : (l : Listing) (s : RunStatus) → ListLeaves l s → s ≢ status.Done → s ≢ status.SinkFault → PutsText l.tells l.old l.new l.faults l.new_faults (refusal_line s)
+pub listed_line : (l : Listing) (s : RunStatus) → ListLeaves l s → s ≢ status.Done → s ≢ status.SinkFault → PutsText l.sink l.new_sink (refusal_line s)
 listed_line l status.Done leaves not_done not_sink = absurd (not_done refl)
 listed_line l status.SinkFault leaves not_done not_sink = absurd (not_sink refl)
 listed_line l status.NoTable leaves not_done not_sink = leaves.0
@@ -59,14 +58,3 @@ listed_line l status.BadWords leaves not_done not_sink = absurd leaves
 listed_line l (status.BadScript line cause) leaves not_done not_sink = absurd leaves
 listed_line l status.ScriptFault leaves not_done not_sink = absurd leaves
 listed_line l (status.NoPart session part) leaves not_done not_sink = absurd leaves
-
--- ---- a call without memory for its words, as a run
-
-says_oom : (size : ℕ) (origin : Origin) → SaysOfOrigin size origin error.Oom
-says_oom size (read tells left new_left) = λ told. tt
-says_oom size (made making) = tt
-
-pub oom_ends : (o : Option Playing) (call : Playing → Call) (s : RunStatus) (report : Option Report) → s ≡ status.OutOfMemory → report ≡ None → IfSome o (λ playing. Ends (call playing) s report)
-oom_ends None call s report is none = tt
-oom_ends (Some playing) call s None is none = record { error = error.Oom; is = is; why = inl (record { cause = tt; says = says_oom (call playing).size (call playing).origin }) }
-oom_ends (Some playing) call s (Some report) is none = absurd (cc)
