@@ -20,3 +20,8 @@ as_many plans places named = sym (length-map places (λ (p : Place). p.part)) �
 pub on_three : {T E : Type 0} (r : Result T E) (P Q R S : T → Type 0) → ((t : T) → P t → Q t → R t → S t) → IfOk r P → IfOk r Q → IfOk r R → IfOk r S
 on_three (Ok t) P Q R S from p q s = from t p q s
 on_three (Err e) P Q R S from p q s = tt
+
+-- one fact of a success gives another
+pub on_one : {T E : Type 0} (r : Result T E) (P Q : T → Type 0) → ((t : T) → P t → Q t) → IfOk r P → IfOk r Q
+on_one (Ok t) P Q from p = from t p
+on_one (Err e) P Q from p = tt

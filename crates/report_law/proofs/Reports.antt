@@ -18,6 +18,7 @@ use Rattle.host_worker.specs.Ends.{EndsState}
 use Rattle.host_worker.specs.Gathered.{IsGathered}
 use Rattle.session_law.proofs.Places.{in_filter, some_at, within}
 use Rattle.report_law.specs.Reports.{GatheredReportsAreLawful}
+use Rattle.report_law.specs.Runs.{GatheredRunsAreLawful, IsLawfulOnAnyDisk}
 use Rattle.report_law.proofs.Frames.{frames_home}
 use Rattle.report_law.proofs.Sessions.{gathered_sessions_are_lawful}
 
@@ -84,16 +85,24 @@ module _ (ends : EndsState) (report : Report) (g : IsGathered ends report) where
       ∙ (ap₂ ◌++◌ (all_pass (is_of_sessions (length report.sessions.items)) ends.story named) (none_closing (length report.sessions.items) report.closing) ∙ append-nil ends.story)) in
       g.steps_are ∙ ap (λ l. l ++ closing_steps report.closing) (sym own)
 
-  run_lawful : (image : List (List ℕ)) → IsLegal image (changes_of report.steps.items) → IsLawfulRun image report
-  run_lawful image legal = record {
+  lawful_run : IsLawfulOnAnyDisk report
+  lawful_run = record {
     numbers = numbers_are 1 report.sessions.items number_is;
     sessions = gathered_sessions_are_lawful ends report g;
     closing = closing_is;
-    legal = legal;
     frames = only_where (ran_short report.sessions.items) (pages_asked report.sessions.items)
         (λ short. subst (λ l. 4096 < pages_asked l) (sym g.sessions_are) (g.ended.short (ap ran_short (sym g.sessions_are) ∙ short)));
     home = frames_home ends report g;
   }
 
+pub gathered_runs_are_lawful : GatheredRunsAreLawful
+gathered_runs_are_lawful ends report g = lawful_run ends report g
+
+-- with the image that its steps are a legal history of
+run_lawful : (image : List (List ℕ)) (ends : EndsState) (report : Report) → IsGathered ends report → IsLegal image (changes_of report.steps.items) → IsLawfulRun image report
+run_lawful image ends report g legal =
+    let run = lawful_run ends report g in
+    record { numbers = run.numbers; sessions = run.sessions; closing = run.closing; legal = legal; frames = run.frames; home = run.home }
+
 pub gathered_reports_are_lawful : GatheredReportsAreLawful
-gathered_reports_are_lawful image ends report g of_image on_table legal = record { of_image = of_image; on_table = on_table; run = run_lawful ends report g image legal }
+gathered_reports_are_lawful image ends report g of_image on_table legal = record { of_image = of_image; on_table = on_table; run = run_lawful image ends report g legal }

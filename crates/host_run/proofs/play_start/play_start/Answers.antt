@@ -7,7 +7,9 @@ use Rattle.host_start.specs.declared.places.Place.{Place}
 use Rattle.play_law.proofs.Runs.{played_runs_are_sound}
 use Rattle.play_law.specs.Runs.{IsSound}
 use Rattle.script_model.specs.Plans.{plans_of}
-use Rattle.host_run.proofs.Starts.{on_three, ranges_inside}
+use Rattle.report_law.proofs.Reports.{gathered_runs_are_lawful}
+use Rattle.report_law.specs.Runs.{IsLawfulOnAnyDisk}
+use Rattle.host_run.proofs.Starts.{on_one, on_three, ranges_inside}
 use Rattle.host_run.proofs.play_start.play_start.Goals as goal
 
 pub play-requires-clause-inside : goal.play-requires-clause-inside
@@ -33,3 +35,12 @@ returns-clause-sound g c = λ image placed durable told.
     (subst (λ (l : List Range). IfOk c.play.result (λ run. IsReportOf (plans_of start.script) l workers depth run.report)) same c.play.ensures.report)
     c.play.ensures.image
     (subst (λ (i : List (List ℕ)). IfOk c.play.result (λ run. KeepsImage i start.blocks start.size (changes_of run.report.steps.items) (g.D.Disk.state run.disk))) durable (c.play.ensures.told told))
+
+pub returns-clause-lawful : goal.returns-clause-lawful
+returns-clause-lawful g c =
+    let setting = c.args.setting in
+    on_one c.play.result
+    (λ run. IsReportOf (plans_of c.args.start.now.script) c.deref.result.now setting.workers setting.depth run.report)
+    (λ run. IsLawfulOnAnyDisk run.report)
+    (λ run of. gathered_runs_are_lawful of.ends run.report of.gathered)
+    c.play.ensures.report
