@@ -1,6 +1,6 @@
 -- What a run leaves, from what its stages left.
-use Rattle.std.proofs.Common.{◌≡◌, ◌⊎◌, inl, ◌∙◌, ap, refl, subst, sym, ℕ, Option, Some, None, List, lit≤, ≤_refl}
-use Rattle.std.specs.Prelude.{IfSome}
+use Rattle.std.proofs.Common.{◌≡◌, ◌⊎◌, inl, ◌∙◌, ap, refl, subst, sym, ℕ, Option, Some, None, List, arith}
+use Rattle.std.specs.Prelude.{IfNone, IfSome, IsTrue}
 use Rattle.host_report.specs.declared.report.Report.{Report}
 use Rattle.host_run.specs.Ending.{IsItsScript, IsNoScript, IsNoStart, SaysNoScript}
 use Rattle.host_run.specs.Played.{IsPlayOf, LeavesUnplayed}
@@ -28,6 +28,7 @@ played_leaves scene plans report status script played ran ended sink_fault told 
     record {
       headline = record {
         played = record { plans = plans; script = script; is = played };
+        answered = ran.answered;
         lawful = ran.lawful;
         outlives = ran.outlives;
         keeps = ran.keeps;
@@ -57,11 +58,23 @@ pub untouched : (before after : DiskSeen) → after ≡ before → WasRead befor
 untouched before after same = subst (λ (d : DiskSeen). WasRead before d) (sym same) (record {
   writes = refl;
   syncs = refl;
-  reads = ≤_refl before.counts.reads;
-  later = ≤_refl before.counts.faults;
+  reads = omega arith;
+  later = omega arith;
   still = λ never. never;
   no_fault = λ never. refl;
 })
+
+-- ---- the disk that was handed in
+
+-- a run on a copy only reads it
+pub copy_reads : {scene : Scene} {s : RunStatus} {report : Option Report} → RunLeaves scene s report → IsTrue scene.playing.dry → WasRead scene.disk scene.new_disk
+copy_reads {scene} {s} {Some report} leaves dry = leaves.disks.reads dry
+copy_reads {scene} {s} {None} leaves dry = leaves.disks.reads
+
+-- a refused run only reads it
+pub refusal_reads : {scene : Scene} {s : RunStatus} {report : Option Report} → RunLeaves scene s report → IfNone report (WasRead scene.disk scene.new_disk)
+refusal_reads {scene} {s} {Some report} leaves = tt
+refusal_reads {scene} {s} {None} leaves = leaves.disks.reads
 
 -- ---- a call without memory for its words, as a run
 

@@ -4,6 +4,7 @@ use Rattle.host_report.specs.declared.report.Report.{Report}
 use Rattle.host_start.specs.Reading.{Makes}
 use Rattle.host_start.specs.declared.error.StartError.{StartError}
 use Rattle.host_run.specs.Runs.{RunLeaves}
+use Rattle.host_run.specs.Scene.{Scene}
 use Rattle.host_run.specs.Seen.{disk_seen, sink_seen}
 use Rattle.host_run.specs.Words.{Making, plans_made, playing_by}
 use Rattle.host_run.proofs.Left.{refused_leaves, untouched}
@@ -17,7 +18,7 @@ pub returns-in-Err-clause-run : goal.returns-in-Err-clause-run
 returns-in-Err-clause-run g c = λ source new_source.
     let told = c.refuse.ensures in
     let making : Making = record { seed = c.args.seed; sessions = c.args.sessions; requests = c.args.requests } in
-    let scene = λ (dry : Option MemDisk). record {
+    let scene : Option MemDisk → Scene = λ dry. record {
       playing = playing_by c.args.image.now c.args.size c.args.mode (Some making);
       source = source;
       new_source = new_source;

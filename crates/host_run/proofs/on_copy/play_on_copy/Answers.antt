@@ -31,6 +31,7 @@ returns-in-Ok-play_start-clause-ran g c =
     let before = (g.D.Disk.counts c.args.disk).faults in
     let after = (g.D.Disk.counts c.start_on_copy.new.disk).faults in
     record {
+      answered = ran.lawful;
       lawful = λ told. subst (λ (i : List (List ℕ)). IsLawful i run.report) (sym same) sound.lawful;
       outlives = λ told left crash. subst (λ (i : List (List ℕ)). IsCrashImage i (changes_of run.report.steps.items) left) (sym same) (sound.crashes left crash);
       keeps = record { kept = λ told left crash. subst (λ (i : List (List ℕ)). KeepsFlushed i run.report left) (sym same) (sound.flushed left crash) };

@@ -20,6 +20,7 @@ returns-in-Ok-play_start-clause-ran g c =
     let before = (g.D.Disk.counts c.args.disk).faults in
     let after = (g.D.Disk.counts run.disk).faults in
     record {
+      answered = ran.lawful;
       lawful = λ told. (sound told).lawful;
       outlives = λ told. (sound told).crashes;
       keeps = record { kept = λ told. (sound told).flushed };

@@ -2,6 +2,7 @@ use Rattle.std.proofs.Common.{Err, None, Option, ap, inl, subst, sym}
 use Rattle.host_io.specs.declared.mem_disk.MemDisk.{MemDisk}
 use Rattle.host_report.specs.declared.report.Report.{Report}
 use Rattle.host_run.specs.Runs.{RunLeaves}
+use Rattle.host_run.specs.Scene.{Scene}
 use Rattle.host_run.specs.Seen.{disk_seen, sink_seen, source_seen}
 use Rattle.host_run.specs.Words.{playing_by}
 use Rattle.host_start.specs.Refusals.{IsOfScript}
@@ -16,7 +17,7 @@ returns-in-Ok-clause-run g c =
 pub returns-in-Err-clause-run : goal.returns-in-Err-clause-run
 returns-in-Err-clause-run g c =
     let told = c.refuse.ensures in
-    let scene = λ (dry : Option MemDisk). record {
+    let scene : Option MemDisk → Scene = λ dry. record {
       playing = playing_by c.args.image.now c.args.size c.args.mode None;
       source = source_seen g.S.Source c.args.source.now;
       new_source = source_seen g.S.Source c.read_script.new.source;

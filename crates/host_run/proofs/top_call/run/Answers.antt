@@ -1,13 +1,15 @@
-use Rattle.std.proofs.Common.{◌≢◌, ◌∙◌, None, Some, ap, subst, sym}
+use Rattle.std.proofs.Common.{◌≡◌, ◌≢◌, ◌∙◌, Option, ap, refl, subst, sym}
+use Rattle.std.specs.Prelude.{IfSome}
+use Rattle.host_io.specs.declared.mem_disk.MemDisk.{MemDisk}
 use Rattle.host_run.specs.Listed.{Listing}
 use Rattle.host_run.specs.Refusals.{refusal_line, refused_status}
-use Rattle.host_run.specs.Scene.{Scene}
+use Rattle.host_run.specs.Scene.{Scene, opening_image}
 use Rattle.host_run.specs.Seen.{disk_seen, sink_seen, source_seen}
 use Rattle.host_run.specs.Words.{Playing, playing_in, said_by}
 use Rattle.host_run.specs.Writes.{PutsText}
 use Rattle.host_run.specs.declared.status.RunStatus.TheVariants.{Done, SinkFault}
 use Rattle.host_run.proofs.Calls.{if_none, listed_line}
-use Rattle.host_run.proofs.Left.{oom_leaves, untouched}
+use Rattle.host_run.proofs.Left.{copy_reads, oom_leaves, refusal_reads, untouched}
 use Rattle.host_run.proofs.top_call.run.Goals as goal
 
 pub returns-in-Err-Oom-clause-run : goal.returns-in-Err-Oom-clause-run
@@ -26,7 +28,7 @@ returns-in-Err-Oom-clause-run g c =
       copy = left.result.dry;
     } in
     oom_leaves (playing_in (said_by c.args.words.now)) scene left.result.status left.result.report (left.ensures.status ∙ ap refused_status c.memory.ensures) left.ensures.no_report
-    (λ playing. record { reads = untouched disk new_disk (ap (λ d. disk_seen g.D.Disk d) left.ensures.disk); opened = ? })
+    (λ playing. record { reads = untouched disk new_disk (ap (λ d. disk_seen g.D.Disk d) left.ensures.disk); opened = λ told. subst (λ (copy : Option MemDisk). IfSome copy (λ copy. opening_image playing.size copy ≡ g.D.Disk.image_named c.args.disk playing.name playing.size)) (sym left.ensures.no_dry) tt })
 
 pub returns-in-List-clause-line : goal.returns-in-List-clause-line
 returns-in-List-clause-line g c =
@@ -38,3 +40,13 @@ returns-in-List-clause-line g c =
     } in
     let s = c.list.result.status in
     if_none c.list.result.report (s ≢ Done → s ≢ SinkFault → PutsText l.sink l.new_sink (refusal_line s)) (listed_line l s c.list.ensures.leaves)
+
+pub returns-in-Load-clause-only_reads : goal.returns-in-Load-clause-only_reads
+returns-in-Load-clause-only_reads g c = λ plays.
+    let source = source_seen g.S.Source c.args.script.now in
+    copy_reads (c.load.ensures.run source source) refl
+
+pub returns-in-Load-clause-refused_reads : goal.returns-in-Load-clause-refused_reads
+returns-in-Load-clause-refused_reads g c =
+    let source = source_seen g.S.Source c.args.script.now in
+    refusal_reads (c.load.ensures.run source source)
