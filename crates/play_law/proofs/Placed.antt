@@ -1,5 +1,5 @@
 -- The sessions of a run are on the partitions that its start found.
-use Rattle.std.proofs.Common.{◌≡◌, ℕ, zero, suc, ◌+◌, List, [], ◌∷◌, length, map, true, Option, Some, refl, sym, ap, subst, ◌∙◌, arith}
+use Rattle.std.proofs.Common.{◌≡◌, Bool, ℕ, zero, suc, ◌+◌, List, [], ◌∷◌, length, map, true, Option, Some, refl, sym, ap, subst, ◌∙◌, arith}
 use Rattle.std.specs.Prelude.{unwrap_or}
 use Rattle.std.specs.List.{slice_get}
 use Rattle.host_block.specs.declared.range.Range.{Range}
@@ -20,6 +20,7 @@ use Rattle.session_law.proofs.Finding.{from_map, in_map}
 use Rattle.session_law.proofs.Places.{only_at, some_at, within}
 use Rattle.hand_law.proofs.Whole.{all_one}
 use Rattle.report_law.proofs.Shares.{all_by}
+use Rattle.play_law.specs.Runs.{IsLaidOut}
 
 -- spec k is that of plan k on range k
 pub record IsSpecOf (plans : List SessionPlan) (ranges : List Range) (size depth n k : ℕ) (spec : SessionSpec) : Type 0 where
@@ -42,13 +43,8 @@ spec_at (plan ∷ plans) (range ∷ ranges) size depth n (suc k) spec at =
     let r = spec_at plans ranges size depth (n + 1) k spec at in
     record { plan = r.plan; range = r.range; planned = r.planned; ranged = r.ranged; part_is = r.part_is; range_is = r.range_is }
 
-module _ (image : List (List ℕ)) (start : Start) (workers depth : ℕ) (report : Report) (placed : IsPlaced true image start)
+module _ (tells : Bool) (image : List (List ℕ)) (start : Start) (workers depth : ℕ) (report : Report) (placed : IsPlaced tells image start)
     (run : IsReportOf (plans_of start.script) (map (λ (place : Place). place.range) start.places.items) workers depth report) where
-  on_image : IsLayoutOn image start.which placed.layout
-  on_image = placed.on_image refl
-
-  -- ---- one session
-
   its_range : (k : ℕ) (e : SessionReport) → slice_get report.sessions.items k ≡ Some e → IsRangeOf placed.layout e.part e.range
   its_range k e at =
       let g = run.gathered in
@@ -65,6 +61,18 @@ module _ (image : List (List ℕ)) (start : Start) (workers depth : ℕ) (report
       let is : IsRangeOf placed.layout place.0.part place.0.range = all_one (λ (p : Place). IsRangeOf placed.layout p.part p.range) start.places.items placed.places.ranges k place.0 place.1 in
       subst (λ (r : Range). IsRangeOf placed.layout e.part r) range (subst (λ (n : ℕ). IsRangeOf placed.layout n place.0.range) part is)
 
+  pub laid_out : report.blocks ≡ start.blocks → IsLaidOut report
+  laid_out blocks = record {
+    layout = placed.layout;
+    blocks = placed.blocks ∙ sym blocks;
+    ranges = all_by (λ (s : SessionReport). IsRangeOf placed.layout s.part s.range) report.sessions.items its_range;
+  }
+
+module _ (image : List (List ℕ)) (start : Start) (workers depth : ℕ) (report : Report) (placed : IsPlaced true image start)
+    (run : IsReportOf (plans_of start.script) (map (λ (place : Place). place.range) start.places.items) workers depth report) where
+  on_image : IsLayoutOn image start.which placed.layout
+  on_image = placed.on_image refl
+
   pub on_table : report.which ≡ start.which → IsOnTable image report
   on_table which = record {
     disk_id = on_image.disk_id;
@@ -73,5 +81,5 @@ module _ (image : List (List ℕ)) (start : Start) (workers depth : ℕ) (report
     entries = placed.layout.entries;
     table = subst (λ w. IsTable image w on_image.disk_id placed.layout.first_usable placed.layout.last_usable placed.layout.entries) (sym which) on_image.table;
     ranges = all_by (λ (s : SessionReport). IsRangeOf (record { first_usable = placed.layout.first_usable; last_usable = placed.layout.last_usable; blocks = length image; entries = placed.layout.entries }) s.part s.range) report.sessions.items
-        (λ k e at. subst (λ (b : ℕ). IsRangeOf (record { first_usable = placed.layout.first_usable; last_usable = placed.layout.last_usable; blocks = b; entries = placed.layout.entries }) e.part e.range) on_image.blocks (its_range k e at));
+        (λ k e at. subst (λ (b : ℕ). IsRangeOf (record { first_usable = placed.layout.first_usable; last_usable = placed.layout.last_usable; blocks = b; entries = placed.layout.entries }) e.part e.range) on_image.blocks (its_range true image start workers depth report placed run k e at));
   }

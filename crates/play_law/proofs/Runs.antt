@@ -6,8 +6,8 @@ use Rattle.host_report.specs.declared.report.Report.{Report}
 use Rattle.host_start.specs.declared.start.Start.{Start}
 use Rattle.report_law.proofs.Reports.{gathered_reports_are_lawful}
 use Rattle.crash_law.proofs.Survival.{flushed_writes_survive}
-use Rattle.play_law.specs.Runs.{IsRunOn, PlayedRunsAreSound}
-use Rattle.play_law.proofs.Placed.{on_table}
+use Rattle.play_law.specs.Runs.{IsRunOn, PlayedRunsAreLaidOut, PlayedRunsAreSound}
+use Rattle.play_law.proofs.Placed.{laid_out, on_table}
 
 played_report_is_lawful : (image : List (List ℕ)) (start : Start) (workers depth : ℕ) (report : Report) (state : DiskState) → IsRunOn image start workers depth report state → IsLawful image report
 played_report_is_lawful image start workers depth report state run =
@@ -15,6 +15,9 @@ played_report_is_lawful image start workers depth report state run =
     (record { blocks = run.blocks_are ∙ sym run.keeps.blocks_are; size = subst (λ (n : ℕ). IsImage n image) (sym run.size_is) run.keeps.size_is })
     (on_table image start workers depth report run.placed run.report_of run.which_is)
     run.keeps.legal
+
+pub played_runs_are_laid_out : PlayedRunsAreLaidOut
+played_runs_are_laid_out tells image start workers depth report placed blocks run = laid_out tells image start workers depth report placed run blocks
 
 pub played_runs_are_sound : PlayedRunsAreSound
 played_runs_are_sound image start workers depth report state run =

@@ -1,8 +1,11 @@
 -- A run whose sessions were played over the workers has a lawful report, and its disk outlives a crash.
-use Rattle.std.specs.Prelude.{◌≡◌, ℕ, true, List, map}
+use Rattle.std.specs.Prelude.{◌≡◌, Bool, ℕ, true, List, map}
+use Rattle.std.specs.List.{AllByRecursion}
 use Rattle.host_block.specs.Crash.{IsCrashImage}
 use Rattle.host_block.specs.Disk.{DiskState, IsCrashOf}
 use Rattle.host_model.specs.Changes.{changes_of}
+use Rattle.host_part.specs.Ranges.{IsRangeOf}
+use Rattle.host_part.specs.Served.{Layout}
 use Rattle.host_report.specs.declared.report.Report.{Report}
 use Rattle.host_report.specs.Lawful.{IsLawful}
 use Rattle.host_start.specs.declared.start.Start.{Start}
@@ -27,6 +30,18 @@ pub record IsSound (image : List (List ℕ)) (report : Report) (state : DiskStat
   pub lawful : IsLawful image report
   pub crashes : (left : List (List ℕ)) → IsCrashOf state left → IsCrashImage image (changes_of report.steps.items) left
   pub flushed : (left : List (List ℕ)) → IsCrashOf state left → KeepsFlushed image report left
+
+-- The sessions of a report are on the ranges that one layout on its blocks gives to their partitions. So sessions on two
+-- partitions share no block, and each range lies among the blocks.
+pub record IsLaidOut (report : Report) : Type 0 where
+  pub layout : Layout
+  pub blocks : layout.blocks ≡ report.blocks
+  pub ranges : AllByRecursion (λ s. IsRangeOf layout s.part s.range) report.sessions.items
+
+-- on whatever disk, also one that tells nothing
+abbrev pub PlayedRunsAreLaidOut : Type 0
+PlayedRunsAreLaidOut = (tells : Bool) (image : List (List ℕ)) (start : Start) (workers depth : ℕ) (report : Report) → IsPlaced tells image start → report.blocks ≡ start.blocks
+    → IsReportOf (plans_of start.script) (map (λ place. place.range) start.places.items) workers depth report → IsLaidOut report
 
 abbrev pub PlayedRunsAreSound : Type 0
 PlayedRunsAreSound = (image : List (List ℕ)) (start : Start) (workers depth : ℕ) (report : Report) (state : DiskState) → IsRunOn image start workers depth report state → IsSound image report state

@@ -1,5 +1,5 @@
 -- What is lawful of a gathered report on whatever disk its sessions were played.
-use Rattle.std.specs.Prelude.{◌≡◌, List, ◌++◌, map, length, filter, nat_lt, IsTrue}
+use Rattle.std.specs.Prelude.{◌≡◌, ◌++◌, map, length, filter, nat_lt, IsTrue}
 use Rattle.std.specs.List.{AllByRecursion, range_with_len}
 use Rattle.host_model.specs.LawfulSession.{IsLawfulSession}
 use Rattle.host_model.specs.Lists.{implies}
