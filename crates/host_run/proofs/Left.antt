@@ -29,6 +29,7 @@ played_leaves scene plans report status script played ran ended sink_fault told 
       headline = record {
         played = record { plans = plans; script = script; is = played };
         answered = ran.answered;
+        laid_out = ran.laid_out;
         lawful = ran.lawful;
         outlives = ran.outlives;
         keeps = ran.keeps;

@@ -6,6 +6,7 @@ use Rattle.host_block.specs.Disk.{IsCrashOf}
 use Rattle.host_model.specs.Changes.{changes_of}
 use Rattle.host_report.specs.Lawful.{IsLawful}
 use Rattle.host_report.specs.declared.report.Report.{Report}
+use Rattle.play_law.specs.Runs.{IsLaidOut}
 use Rattle.report_law.specs.Runs.{IsLawfulOnAnyDisk}
 use Rattle.host_run.specs.Ending.{IsPlayed}
 use Rattle.host_run.specs.Scene.{PlayedDisk, Scene, played_disk, site_of}
@@ -28,6 +29,8 @@ pub record Headline (scene : Scene) (report : Report) : Type 0 where
   pub played : IsPlayed scene report
   -- Its requests were answered as the rules say, whatever the disk: each session is lawful, and the steps are theirs.
   pub answered : IsLawfulOnAnyDisk report
+  -- They were on the ranges of one layout on the disk's blocks.
+  pub laid_out : IsLaidOut report
   -- The report is lawful for the image that was played on, where that disk tells.
   pub lawful : IsLawfulOn (played_disk (site_of scene)) report
   -- A crash of the disk that was played on leaves what the report's steps allow.

@@ -1,6 +1,7 @@
 -- What a run on a script leaves.
 use Rattle.std.specs.Prelude.{Bool, IfNone, IfSome, Option}
 use Rattle.host_report.specs.declared.report.Report.{Report}
+use Rattle.play_law.specs.Runs.{IsLaidOut}
 use Rattle.report_law.specs.Runs.{IsLawfulOnAnyDisk}
 use Rattle.host_run.specs.Ending.{IsComplete, IsDone, IsPlayable, IsRefused}
 use Rattle.host_run.specs.Headline.{Headline, IsLawfulOn, KeepsWhatWasFlushed, OutlivesCrash}
@@ -13,6 +14,7 @@ use Rattle.host_run.specs.declared.status.RunStatus.{RunStatus}
 -- A script was played there, with this report: the disk that was played on keeps its promises, and what is left of the disks.
 pub record IsRunOn (site : Site) (cut : Bool) (report : Report) : Type 0 where
   pub answered : IsLawfulOnAnyDisk report
+  pub laid_out : IsLaidOut report
   pub lawful : IsLawfulOn (played_disk site) report
   pub outlives : OutlivesCrash (played_disk site) report
   pub keeps : KeepsWhatWasFlushed (played_disk site) report

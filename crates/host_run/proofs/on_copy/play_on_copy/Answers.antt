@@ -1,4 +1,4 @@
-use Rattle.std.proofs.Common.{◌≡◌, ◌∙◌, ℕ, List, ap, refl, subst, sym}
+use Rattle.std.proofs.Common.{◌≡◌, ◌∙◌, ℕ, List, true, ap, refl, subst, sym}
 use Rattle.crash_law.specs.Survival.{KeepsFlushed}
 use Rattle.host_block.specs.Crash.{IsCrashImage}
 use Rattle.host_block.specs.Disk.{DiskState}
@@ -32,6 +32,7 @@ returns-in-Ok-play_start-clause-ran g c =
     let after = (g.D.Disk.counts c.start_on_copy.new.disk).faults in
     record {
       answered = ran.lawful;
+      laid_out = ran.laid_out true (image_in copy) ready.placed;
       lawful = λ told. subst (λ (i : List (List ℕ)). IsLawful i run.report) (sym same) sound.lawful;
       outlives = λ told left crash. subst (λ (i : List (List ℕ)). IsCrashImage i (changes_of run.report.steps.items) left) (sym same) (sound.crashes left crash);
       keeps = record { kept = λ told left crash. subst (λ (i : List (List ℕ)). KeepsFlushed i run.report left) (sym same) (sound.flushed left crash) };

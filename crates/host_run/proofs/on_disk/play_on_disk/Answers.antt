@@ -21,6 +21,7 @@ returns-in-Ok-play_start-clause-ran g c =
     let after = (g.D.Disk.counts run.disk).faults in
     record {
       answered = ran.lawful;
+      laid_out = ran.laid_out (g.D.Disk.shape c.args.disk).tells image ready.placed;
       lawful = λ told. (sound told).lawful;
       outlives = λ told. (sound told).crashes;
       keeps = record { kept = λ told. (sound told).flushed };
