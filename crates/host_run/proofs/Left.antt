@@ -69,13 +69,13 @@ untouched before after same = subst (λ (d : DiskSeen). WasRead before d) (sym s
 
 -- a run on a copy only reads it
 pub copy_reads : {scene : Scene} {s : RunStatus} {report : Option Report} → RunLeaves scene s report → IsTrue scene.playing.dry → WasRead scene.disk scene.new_disk
-copy_reads {scene} {s} {Some report} leaves dry = leaves.disks.reads dry
-copy_reads {scene} {s} {None} leaves dry = leaves.disks.reads
+copy_reads {report = Some report} leaves dry = leaves.disks.reads dry
+copy_reads {report = None} leaves dry = leaves.disks.reads
 
 -- a refused run only reads it
 pub refusal_reads : {scene : Scene} {s : RunStatus} {report : Option Report} → RunLeaves scene s report → IfNone report (WasRead scene.disk scene.new_disk)
-refusal_reads {scene} {s} {Some report} leaves = tt
-refusal_reads {scene} {s} {None} leaves = leaves.disks.reads
+refusal_reads {report = Some report} leaves = tt
+refusal_reads {report = None} leaves = leaves.disks.reads
 
 -- ---- a call without memory for its words, as a run
 
