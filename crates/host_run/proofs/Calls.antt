@@ -1,18 +1,18 @@
 -- What a call leaves, in terms of the words that ask for it.
-use Rattle.std.proofs.Common.{◌≡◌, ◌≢◌, inl, ℕ, Option, Some, None, refl}
+use Rattle.std.proofs.Common.{◌≡◌, ◌≢◌, Option, Some, None, refl, subst, sym}
 use Rattle.std.specs.Prelude.{IfNone, IfSome}
 use Rattle.host_report.specs.declared.report.Report.{Report}
-use Rattle.host_run.specs.Ending.{Call, Ends, Origin, SaysOfOrigin, made, read}
 use Rattle.host_run.specs.Listed.{ListLeaves, Listing}
 use Rattle.host_run.specs.Refusals.{refusal_line}
-use Rattle.host_run.specs.Words.{Playing}
 use Rattle.host_run.specs.Writes.{PutsText}
 use Rattle.host_run.specs.declared.status.RunStatus.{RunStatus}
 use Rattle.host_run.specs.declared.status.RunStatus.TheVariants as status
 use Rattle.host_start.specs.declared.error.Limit.TheVariants as limit
-use Rattle.host_start.specs.declared.error.StartError.TheVariants as error
 
 -- ---- words that ask for something, or don't
+
+pub asked : {A : Type 0} (o : Option A) (a : A) (P : A → Type 0) → o ≡ Some a → P a → IfSome o P
+asked o a P is holds = subst (λ x. IfSome x P) (sym is) holds
 
 pub if_none : (report : Option Report) (P : Type 0) → P → IfNone report P
 if_none None P holds = holds
@@ -20,7 +20,7 @@ if_none (Some report) P holds = tt
 
 -- ---- the line of a refused list
 
-pub listed_line : (l : Listing) (s : RunStatus) → ListLeaves l s → s ≢ status.Done → s ≢ status.SinkFault → PutsText l.tells l.old l.new l.faults l.new_faults (refusal_line s)
+pub listed_line : (l : Listing) (s : RunStatus) → ListLeaves l s → s ≢ status.Done → s ≢ status.SinkFault → PutsText l.sink l.new_sink (refusal_line s)
 listed_line l status.Done leaves not_done not_sink = absurd (not_done refl)
 listed_line l status.SinkFault leaves not_done not_sink = absurd (not_sink refl)
 listed_line l status.NoTable leaves not_done not_sink = leaves.0
@@ -37,14 +37,3 @@ listed_line l status.BadWords leaves not_done not_sink = absurd leaves
 listed_line l (status.BadScript line cause) leaves not_done not_sink = absurd leaves
 listed_line l status.ScriptFault leaves not_done not_sink = absurd leaves
 listed_line l (status.NoPart session part) leaves not_done not_sink = absurd leaves
-
--- ---- a call without memory for its words, as a run
-
-says_oom : (size : ℕ) (origin : Origin) → SaysOfOrigin size origin error.Oom
-says_oom size (read tells left new_left) = λ told. tt
-says_oom size (made making) = tt
-
-pub oom_ends : (o : Option Playing) (call : Playing → Call) (s : RunStatus) (report : Option Report) → s ≡ status.OutOfMemory → report ≡ None → IfSome o (λ playing. Ends (call playing) s report)
-oom_ends None call s report is none = tt
-oom_ends (Some playing) call s None is none = record { error = error.Oom; is = is; why = inl (record { cause = tt; says = says_oom (call playing).size (call playing).origin }) }
-oom_ends (Some playing) call s (Some report) is none = absurd (cc)

@@ -8,7 +8,9 @@ use Rattle.host_report.specs.Lawful.{closing_flush, closing_steps}
 use Rattle.host_report.specs.declared.closing.Closing.{Closing}
 use Rattle.host_report.specs.declared.closing.Closing.TheVariants.{Good, Fault, Cut, NoMemory}
 use Rattle.host_report.specs.declared.report.Report.{Report}
-use Rattle.host_run.specs.Played.{IsComplete}
+use Rattle.host_run.specs.Ending.{IsComplete, IsDone}
+use Rattle.host_run.specs.Scene.{Scene}
+use Rattle.host_run.specs.Seen.{SinkFailed}
 use Rattle.host_run.specs.Statuses.{HasRunReport, played_status}
 use Rattle.host_run.specs.declared.status.RunStatus.{RunStatus}
 use Rattle.host_run.specs.declared.status.RunStatus.TheVariants.{Done, SinkFault, OutOfMemory}
@@ -47,7 +49,7 @@ closing_faulted ends report gathered fault =
     omega (arith, count)
 
 -- where neither disk nor sink failed, the run is done, or there was no memory for its closing flush
-done : (closing : Closing) (was_written : Bool) (status : RunStatus) → status ≡ played_status closing was_written → ¬ (closing ≡ Fault) → ¬ (status ≡ SinkFault) → (status ≡ Done) ⊎ (status ≡ OutOfMemory)
+done : (closing : Closing) (was_written : Bool) (status : RunStatus) → status ≡ played_status closing was_written → ¬ (closing ≡ Fault) → ¬ (status ≡ SinkFault) → IsDone status
 done Good true status is good written = inl is
 done Good false status is good written = absurd (written is)
 done Cut true status is good written = inl is
@@ -55,10 +57,15 @@ done Cut false status is good written = absurd (written is)
 done Fault was_written status is good written = absurd (good refl)
 done NoMemory was_written status is good written = inr is
 
-pub complete : (ends : EndsState) (report : Report) (status : RunStatus) (before now : ℕ) (sink : Type 0) → IsGathered ends report → RoseBy (faulted_count report.steps.items) before now → HasRunReport status (Some report) → (status ≡ SinkFault → sink)
-    → IsComplete (Rose before now) sink status report
-complete ends report status before now sink gathered rose ended sink_fault = record {
-  no_faults = λ none. no_faults (faulted_count report.steps.items) before now rose none;
-  done = λ none no_sink. done report.closing ended.0 status ended.1
-      (λ fault. none (rose_by (faulted_count report.steps.items) before now rose (closing_faulted ends report gathered fault))) (λ is. no_sink (sink_fault is));
-}
+pub complete : (scene : Scene) (ends : EndsState) (report : Report) (status : RunStatus) → IsGathered ends report → RoseBy (faulted_count report.steps.items) scene.disk.counts.faults scene.new_disk.counts.faults → HasRunReport status (Some report)
+    → (status ≡ SinkFault → SinkFailed scene.sink scene.new_sink)
+    → IsComplete scene status report
+complete scene ends report status gathered rose ended sink_fault =
+    let before = scene.disk.counts.faults in
+    let after = scene.new_disk.counts.faults in
+    let count = faulted_count report.steps.items in
+    record {
+      no_faults = λ none. no_faults count before after rose none;
+      done = λ none no_sink. done report.closing ended.0 status ended.1
+          (λ fault. none (rose_by count before after rose (closing_faulted ends report gathered fault))) (λ is. no_sink (sink_fault is));
+    }

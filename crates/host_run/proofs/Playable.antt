@@ -1,11 +1,10 @@
 -- What can be played is refused only where something outside failed, or for want of memory.
 use Rattle.std.proofs.Common.{◌≡◌, ◌⊎◌, inl, inr, ℕ, ◌<◌, ◌≤◌, suc, List, [], ◌∷◌, ◌++◌, length, Option, Some, None, Ok, Err, refl, sym, ◌∙◌, ap, subst, arith}
-use Rattle.std.specs.Prelude.{All, IfSome}
+use Rattle.std.specs.Prelude.{All}
 use Rattle.std.proofs.lemmas.List.{length-append}
 use Rattle.host_gpt.proofs.LawLemmas.{one_table, table_excludes}
 use Rattle.host_part.specs.Served.{Layout}
 use Rattle.host_gpt.specs.declared.which.Which.{Which}
-use Rattle.host_report.specs.declared.report.Report.{Report}
 use Rattle.host_start.specs.Images.{IsLayoutOn, IsServedPart, LacksPart, parts_of}
 use Rattle.host_start.specs.Refusals.{IsAfterScript, IsOfScript}
 use Rattle.host_start.specs.declared.error.Limit.TheVariants as limit
@@ -15,11 +14,12 @@ use Rattle.script_model.specs.Limit.{limit_of}
 use Rattle.script_model.specs.Plans.{SessionPlan}
 use Rattle.script_model.specs.Script.{script_of}
 use Rattle.script_model.specs.declared.parse_error.ParseError.TheVariants.{Bad}
-use Rattle.host_run.specs.Ending.{Call, Ends, IsDoneWherePlayable, IsItsScript, IsNoScript, IsNoStart, IsPlayable, IsRefused, Origin, SaysOfOrigin, StandsThere, made, read}
-use Rattle.host_run.specs.Played.{IsComplete}
+use Rattle.host_run.specs.Ending.{IsDone, IsNoScript, IsNoStart, IsPlayable, IsScriptOf, SaysNoScript, StandsThere}
 use Rattle.host_run.specs.Refusals.{start_status}
+use Rattle.host_run.specs.Scene.{NoneFailed, Scene, image_at, site_of}
+use Rattle.host_run.specs.Seen.{DiskFailed, SourceFailed, SourceSeen}
+use Rattle.host_run.specs.Words.{Making}
 use Rattle.host_run.specs.declared.status.RunStatus.{RunStatus}
-use Rattle.host_run.specs.declared.status.RunStatus.TheVariants.{DiskFault, Done, OutOfMemory, ScriptFault}
 
 -- ---- the script
 
@@ -28,48 +28,48 @@ too_long : (left new_left taken : List ℕ) → left ≡ taken ++ new_left → 1
 too_long left new_left taken is many few = absurd (let n = ap (λ (l : List ℕ). length l) is ∙ length-append taken new_left in omega (arith, n, many, few))
 
 -- where there is a script, there is none only for want of memory or for a source that failed
-no_script : (size : ℕ) (origin : Origin) (plans : List SessionPlan) (e : StartError) → StandsThere size origin plans → IsOfScript e → SaysOfOrigin size origin e → (e ≡ error.Source) ⊎ (e ≡ error.Oom)
-no_script size origin plans error.Source stands cause says = inl refl
-no_script size origin plans error.Oom stands cause says = inr refl
-no_script size (read tells left new_left) plans (error.BadScript line word) stands cause says =
-    let bad : script_of left ≡ Err (Bad line word) = (says stands.0).is.is in
-    let good : script_of left ≡ Ok plans = stands.1.meant in absurd (cc)
-no_script size (made making) plans (error.BadScript line word) stands cause says = absurd says
-no_script size (read tells left new_left) plans (error.TooLarge limit.ScriptBytes) stands cause says =
-    let long = says stands.0 in absurd (too_long left new_left long.0 long.2 long.1 stands.1.short)
-no_script size (read tells left new_left) plans (error.TooLarge limit.Sessions) stands cause says =
+no_script : (size : ℕ) (making : Option Making) (before after : SourceSeen) (plans : List SessionPlan) (e : StartError) → StandsThere size making before plans → IsOfScript e → SaysNoScript size making before after e → (e ≡ error.Source) ⊎ (e ≡ error.Oom)
+no_script size making before after plans error.Source stands cause says = inl refl
+no_script size making before after plans error.Oom stands cause says = inr refl
+no_script size None before after plans (error.BadScript line word) stands cause says =
+    let bad : script_of before.left ≡ Err (Bad line word) = (says stands.0).is.is in
+    let good : script_of before.left ≡ Ok plans = stands.1.meant in absurd (cc)
+no_script size (Some making) before after plans (error.BadScript line word) stands cause says = absurd says
+no_script size None before after plans (error.TooLarge limit.ScriptBytes) stands cause says =
+    let long = says stands.0 in absurd (too_long before.left after.left long.0 long.2 long.1 stands.1.short)
+no_script size None before after plans (error.TooLarge limit.Sessions) stands cause says =
     let past = (says stands.0).is in
-    let meant : script_of left ≡ Ok past.plans = past.meant in
-    let good : script_of left ≡ Ok plans = stands.1.meant in
+    let meant : script_of before.left ≡ Ok past.plans = past.meant in
+    let good : script_of before.left ≡ Ok plans = stands.1.meant in
     let passed : limit_of size past.plans ≡ Some past.past.passed = past.past.is in
     let fits : limit_of size plans ≡ None = stands.1.fits in absurd (cc)
-no_script size (read tells left new_left) plans (error.TooLarge limit.Records) stands cause says =
+no_script size None before after plans (error.TooLarge limit.Records) stands cause says =
     let past = (says stands.0).is in
-    let meant : script_of left ≡ Ok past.plans = past.meant in
-    let good : script_of left ≡ Ok plans = stands.1.meant in
+    let meant : script_of before.left ≡ Ok past.plans = past.meant in
+    let good : script_of before.left ≡ Ok plans = stands.1.meant in
     let passed : limit_of size past.plans ≡ Some past.past.passed = past.past.is in
     let fits : limit_of size plans ≡ None = stands.1.fits in absurd (cc)
-no_script size (read tells left new_left) plans (error.TooLarge limit.Moved) stands cause says =
+no_script size None before after plans (error.TooLarge limit.Moved) stands cause says =
     let past = (says stands.0).is in
-    let meant : script_of left ≡ Ok past.plans = past.meant in
-    let good : script_of left ≡ Ok plans = stands.1.meant in
+    let meant : script_of before.left ≡ Ok past.plans = past.meant in
+    let good : script_of before.left ≡ Ok plans = stands.1.meant in
     let passed : limit_of size past.plans ≡ Some past.past.passed = past.past.is in
     let fits : limit_of size plans ≡ None = stands.1.fits in absurd (cc)
-no_script size (read tells left new_left) plans (error.TooLarge limit.Blocks) stands cause says = absurd cause
-no_script size (read tells left new_left) plans (error.TooLarge limit.Table) stands cause says = absurd cause
-no_script size (made making) plans (error.TooLarge what) stands cause says =
+no_script size None before after plans (error.TooLarge limit.Blocks) stands cause says = absurd cause
+no_script size None before after plans (error.TooLarge limit.Table) stands cause says = absurd cause
+no_script size (Some making) before after plans (error.TooLarge what) stands cause says =
     let passed : limit_of size plans ≡ Some says.passed = ap (limit_of size) stands.0 ∙ says.is in
     let fits : limit_of size plans ≡ None = stands.1 in absurd (cc)
-no_script size origin plans error.Disk stands cause says = absurd cause
-no_script size origin plans error.NoTable stands cause says = absurd cause
-no_script size origin plans (error.NoPart session part) stands cause says = absurd cause
+no_script size making before after plans error.Disk stands cause says = absurd cause
+no_script size making before after plans error.NoTable stands cause says = absurd cause
+no_script size making before after plans (error.NoPart session part) stands cause says = absurd cause
 
 -- a script that was read or made is the one that stands there
-same_plans : (size : ℕ) (origin : Origin) (plans its : List SessionPlan) → StandsThere size origin plans → IsItsScript size origin its → its ≡ plans
-same_plans size (read tells left new_left) plans its stands script =
-    let meant : script_of left ≡ Ok its = (script stands.0).is.meant in
-    let good : script_of left ≡ Ok plans = stands.1.meant in cc
-same_plans size (made making) plans its stands script = script.0 ∙ sym stands.0
+same_plans : (size : ℕ) (making : Option Making) (before after : SourceSeen) (plans its : List SessionPlan) → StandsThere size making before plans → IsScriptOf size making before after its → its ≡ plans
+same_plans size None before after plans its stands script =
+    let meant : script_of before.left ≡ Ok its = (script stands.0).is.meant in
+    let good : script_of before.left ≡ Ok plans = stands.1.meant in cc
+same_plans size (Some making) before after plans its stands script = script.0 ∙ sym stands.0
 
 -- ---- the image
 
@@ -91,52 +91,42 @@ lacks_none image which layout parts session part on served lacks =
     (at_middle (IsServedPart layout) first.before part first.after (subst (All (IsServedPart layout)) first.is served)))
 
 -- where what is asked for can be played, it is refused after the script only for want of memory or for a disk that failed
-no_start : (call : Call) (e : StartError) (cause : IsAfterScript e) (playable : IsPlayable call) → (because : IsNoStart call e) → (e ≡ error.Disk) ⊎ (e ≡ error.Oom)
-no_start call error.Disk cause playable because = inl refl
-no_start call error.Oom cause playable because = inr refl
-no_start call error.Source cause playable because = absurd cause
-no_start call (error.BadScript line word) cause playable because = absurd cause
-no_start call (error.TooLarge limit.ScriptBytes) cause playable because = absurd cause
-no_start call (error.TooLarge limit.Sessions) cause playable because = absurd cause
-no_start call (error.TooLarge limit.Records) cause playable because = absurd cause
-no_start call (error.TooLarge limit.Moved) cause playable because = absurd cause
-no_start call (error.TooLarge limit.Blocks) cause playable because =
-    let many : 262144 < length call.image = because.says playable.disk_tells in absurd (let few : length call.image ≤ 262144 = playable.few in omega (arith, many, few))
-no_start call (error.TooLarge limit.Table) cause playable because =
+no_start : (scene : Scene) (e : StartError) (cause : IsAfterScript e) (playable : IsPlayable scene) → (because : IsNoStart scene e) → (e ≡ error.Disk) ⊎ (e ≡ error.Oom)
+no_start scene error.Disk cause playable because = inl refl
+no_start scene error.Oom cause playable because = inr refl
+no_start scene error.Source cause playable because = absurd cause
+no_start scene (error.BadScript line word) cause playable because = absurd cause
+no_start scene (error.TooLarge limit.ScriptBytes) cause playable because = absurd cause
+no_start scene (error.TooLarge limit.Sessions) cause playable because = absurd cause
+no_start scene (error.TooLarge limit.Records) cause playable because = absurd cause
+no_start scene (error.TooLarge limit.Moved) cause playable because = absurd cause
+no_start scene (error.TooLarge limit.Blocks) cause playable because =
+    let image = image_at (site_of scene) in
+    let many : 262144 < length image = because.says playable.disk_tells in absurd (let few : length image ≤ 262144 = playable.few in omega (arith, many, few))
+no_start scene (error.TooLarge limit.Table) cause playable because =
     let on = playable.on_image in
-    absurd ((table_excludes call.image playable.which on.disk_id playable.layout.first_usable playable.layout.last_usable playable.layout.entries on.table).1 (because.says playable.disk_tells).1)
-no_start call error.NoTable cause playable because =
+    absurd ((table_excludes (image_at (site_of scene)) playable.which on.disk_id playable.layout.first_usable playable.layout.last_usable playable.layout.entries on.table).1 (because.says playable.disk_tells).1)
+no_start scene error.NoTable cause playable because =
     let on = playable.on_image in
-    absurd ((table_excludes call.image playable.which on.disk_id playable.layout.first_usable playable.layout.last_usable playable.layout.entries on.table).0 (because.says playable.disk_tells).1)
-no_start call (error.NoPart session part) cause playable because =
-    let same = same_plans call.size call.origin playable.plans because.plans playable.script because.script in
-    absurd (lacks_none call.image playable.which playable.layout (parts_of playable.plans) session part playable.on_image playable.served
-    (subst (λ (plans : List SessionPlan). LacksPart call.image (parts_of plans) session part) same (because.says playable.disk_tells).1))
+    absurd ((table_excludes (image_at (site_of scene)) playable.which on.disk_id playable.layout.first_usable playable.layout.last_usable playable.layout.entries on.table).0 (because.says playable.disk_tells).1)
+no_start scene (error.NoPart session part) cause playable because =
+    let same = same_plans scene.playing.size scene.playing.making scene.source scene.new_source playable.plans because.plans playable.script because.script in
+    absurd (lacks_none (image_at (site_of scene)) playable.which playable.layout (parts_of playable.plans) session part playable.on_image playable.served
+    (subst (λ (plans : List SessionPlan). LacksPart (image_at (site_of scene)) (parts_of plans) session part) same (because.says playable.disk_tells).1))
 
 -- ---- the end
 
-why : (call : Call) (e : StartError) → IsPlayable call → IsNoScript call e ⊎ IsNoStart call e → (e ≡ error.Source) ⊎ ((e ≡ error.Disk) ⊎ (e ≡ error.Oom))
-why call e playable (inl because) = elim (no_script call.size call.origin playable.plans e playable.script because.cause because.says) [ inl source ↦ inl source | inr memory ↦ inr (inr memory) ]
-why call e playable (inr because) = inr (no_start call e because.cause playable because)
+-- where what is asked for can be played, it is refused only for want of memory or where source or disk failed
+why : (scene : Scene) (e : StartError) → IsPlayable scene → IsNoScript scene e ⊎ IsNoStart scene e → (e ≡ error.Source) ⊎ ((e ≡ error.Disk) ⊎ (e ≡ error.Oom))
+why scene e playable (inl because) =
+    elim (no_script scene.playing.size scene.playing.making scene.source scene.new_source playable.plans e playable.script because.cause because.says) [ inl source ↦ inl source | inr memory ↦ inr (inr memory) ]
+why scene e playable (inr because) = inr (no_start scene e because.cause playable because)
 
-refused : (call : Call) (status : RunStatus) (source_failed disk_failed : Type 0) → IsRefused call status → (status ≡ ScriptFault → source_failed) → (status ≡ DiskFault → disk_failed) → IsPlayable call → ¬ source_failed → ¬ disk_failed
-    → (status ≡ Done) ⊎ (status ≡ OutOfMemory)
-refused call status source_failed disk_failed because source_fault disk_fault playable no_source no_disk =
-    elim (why call because.error playable because.why) [
-      | inl source ↦ absurd (no_source (source_fault (because.is ∙ ap start_status source)))
-      | inr (inl disk) ↦ absurd (no_disk (disk_fault (because.is ∙ ap start_status disk)))
-      | inr (inr memory) ↦ inr (because.is ∙ ap start_status memory)
+pub refused_playable : (scene : Scene) (status : RunStatus) (e : StartError) → status ≡ start_status e → IsNoScript scene e ⊎ IsNoStart scene e → (e ≡ error.Source → SourceFailed scene.source scene.new_source) → (e ≡ error.Disk → DiskFailed scene.disk scene.new_disk)
+    → IsPlayable scene → NoneFailed scene → IsDone status
+refused_playable scene status e is because source_fault disk_fault playable none =
+    elim (why scene e playable because) [
+      | inl source ↦ absurd (none.source (source_fault source))
+      | inr (inl disk) ↦ absurd (none.disk (disk_fault disk))
+      | inr (inr memory) ↦ inr (is ∙ ap start_status memory)
     ]
-
--- there is no script where there is one only for want of memory or for a source that failed
-pub script_playable : (call : Call) (status : RunStatus) (e : StartError) (source_failed disk_failed sink_failed : Type 0) → status ≡ start_status e → IsNoScript call e → (e ≡ error.Source → source_failed)
-    → IsDoneWherePlayable call source_failed disk_failed sink_failed status
-script_playable call status e source_failed disk_failed sink_failed is because source_fault = record {
-  done = λ playable no_source no_disk no_sink.
-      elim (no_script call.size call.origin playable.plans e playable.script because.cause because.says) [ inl source ↦ absurd (no_source (source_fault source)) | inr memory ↦ inr (is ∙ ap start_status memory) ];
-}
-
-pub done_playable : (call : Call) (status : RunStatus) (report : Option Report) (source_failed disk_failed sink_failed : Type 0) → Ends call status report → IfSome report (IsComplete disk_failed sink_failed status)
-    → (status ≡ ScriptFault → source_failed) → (status ≡ DiskFault → disk_failed) → IsDoneWherePlayable call source_failed disk_failed sink_failed status
-done_playable call status (Some report) source_failed disk_failed sink_failed ends complete source_fault disk_fault = record { done = λ playable no_source no_disk no_sink. complete.done no_disk no_sink }
-done_playable call status None source_failed disk_failed sink_failed ends complete source_fault disk_fault = record { done = λ playable no_source no_disk no_sink. refused call status source_failed disk_failed ends source_fault disk_fault playable no_source no_disk }

@@ -21,6 +21,11 @@ pub on_three : {T E : Type 0} (r : Result T E) (P Q R S : T → Type 0) → ((t 
 on_three (Ok t) P Q R S from p q s = from t p q s
 on_three (Err e) P Q R S from p q s = tt
 
+-- two facts of a success give a third
+pub on_two : {T E : Type 0} (r : Result T E) (P Q R : T → Type 0) → ((t : T) → P t → Q t → R t) → IfOk r P → IfOk r Q → IfOk r R
+on_two (Ok t) P Q R from p q = from t p q
+on_two (Err e) P Q R from p q = tt
+
 -- one fact of a success gives another
 pub on_one : {T E : Type 0} (r : Result T E) (P Q : T → Type 0) → ((t : T) → P t → Q t) → IfOk r P → IfOk r Q
 on_one (Ok t) P Q from p = from t p

@@ -1,9 +1,12 @@
-pub mod Copies
 pub mod Ending
+pub mod Headline
 pub mod Listed
 pub mod Made
 pub mod Played
 pub mod Refusals
+pub mod Runs
+pub mod Scene
+pub mod Seen
 pub mod Statuses
 pub mod Words
 pub mod Writes

@@ -1,46 +1,53 @@
 -- What `list` leaves.
-use Rattle.std.specs.Prelude.{◌≡◌, ℕ, Bool, IsTrue, List, ◌++◌}
+use Rattle.std.specs.Prelude.{◌≡◌, ℕ, IsTrue, List, ◌++◌}
 use Rattle.host_gpt.specs.declared.table.Table.{Table}
 use Rattle.host_list.specs.Answers.{IsListed, Refuses}
 use Rattle.host_list.specs.Text.{list_text}
+use Rattle.host_list.specs.declared.list_error.ListError.{ListError}
 use Rattle.host_list.specs.declared.list_error.ListError.TheVariants as error
 use Rattle.host_run.specs.Refusals.{refusal_line}
+use Rattle.host_run.specs.Seen.{DiskSeen, SinkSeen}
+use Rattle.host_run.specs.Words.{TableOf}
 use Rattle.host_run.specs.Writes.{PutsText}
 use Rattle.host_start.specs.declared.error.Limit.TheVariants as limit
 use Rattle.host_run.specs.declared.status.RunStatus.{RunStatus}
 use Rattle.host_run.specs.declared.status.RunStatus.TheVariants.{DiskFault, Done, NoTable, OutOfMemory, SinkFault, TooLarge}
 
--- Where a text goes, and how much of the outside tells: the image that the name gives on the disk, whether disk and sink
--- tell, and what the sink got before and after, with its counts of faults.
+-- What a list is called on, and what it leaves: the table that is asked for, the disk as it was, the sink as it was and as it is
+-- left.
 pub record Listing : Type 0 where
-  pub disk_tells : Bool
-  pub image : List (List ℕ)
-  pub size : ℕ
-  pub tells : Bool
-  pub old : List ℕ
-  pub new : List ℕ
-  pub faults : ℕ
-  pub new_faults : ℕ
+  pub asked : TableOf
+  pub disk : DiskSeen
+  pub sink : SinkSeen
+  pub new_sink : SinkSeen
+
+-- the image, as the disk held it
+abbrev pub listed_image : Listing → List (List ℕ)
+listed_image l = l.disk.image_named l.asked.name l.asked.size
 
 -- the text of a table was put, which is the image's where the disk tells; status 0 says that it was put whole
 pub record PutsList (l : Listing) (status : RunStatus) : Type 0 where
   pub blocks : ℕ
   pub table : Table
-  pub listed : IsTrue l.disk_tells → IsListed l.image blocks table
-  pub puts : PutsText l.tells l.old l.new l.faults l.new_faults (list_text blocks l.size table)
-  pub done : status ≡ Done → IsTrue l.tells → l.new ≡ l.old ++ list_text blocks l.size table
+  pub listed : IsTrue l.disk.shape.tells → IsListed (listed_image l) blocks table
+  pub puts : PutsText l.sink l.new_sink (list_text blocks l.asked.size table)
+  pub done : status ≡ Done → IsTrue l.sink.tells → l.new_sink.appended ≡ l.sink.appended ++ list_text blocks l.asked.size table
 
 -- the line of the refusal was put
 abbrev pub PutsLine : Listing → RunStatus → Type 0
-PutsLine l status = PutsText l.tells l.old l.new l.faults l.new_faults (refusal_line status)
+PutsLine l status = PutsText l.sink l.new_sink (refusal_line status)
+
+-- the image, where the disk tells, is the cause of the refusal
+abbrev pub IsCause : Listing → ListError → Type 0
+IsCause l error = IsTrue l.disk.shape.tells → Refuses (listed_image l) error
 
 -- what `list` leaves, by its status; no other status comes
 abbrev pub ListLeaves : Listing → RunStatus → Type 0
 ListLeaves l Done = PutsList l Done
 ListLeaves l SinkFault = PutsList l SinkFault
-ListLeaves l NoTable = PutsLine l NoTable × (IsTrue l.disk_tells → Refuses l.image error.NoTable)
-ListLeaves l (TooLarge limit.Blocks) = PutsLine l (TooLarge limit.Blocks) × (IsTrue l.disk_tells → Refuses l.image error.TooManyBlocks)
-ListLeaves l (TooLarge limit.Table) = PutsLine l (TooLarge limit.Table) × (IsTrue l.disk_tells → Refuses l.image error.TableTooLarge)
+ListLeaves l NoTable = PutsLine l NoTable × IsCause l error.NoTable
+ListLeaves l (TooLarge limit.Blocks) = PutsLine l (TooLarge limit.Blocks) × IsCause l error.TooManyBlocks
+ListLeaves l (TooLarge limit.Table) = PutsLine l (TooLarge limit.Table) × IsCause l error.TableTooLarge
 ListLeaves l DiskFault = PutsLine l DiskFault
 ListLeaves l OutOfMemory = PutsLine l OutOfMemory
 ListLeaves l _ = ⊥

@@ -1,8 +1,8 @@
 -- What `make` leaves.
-use Rattle.std.specs.Prelude.{◌≡◌, ◌≢◌, ℕ, Bool, IsTrue, List, ◌++◌}
-use Rattle.script_model.specs.Generate.{generated}
+use Rattle.std.specs.Prelude.{◌≡◌, ◌≢◌, ℕ, IsTrue, List, ◌++◌}
 use Rattle.script_model.specs.Print.{script_text}
-use Rattle.host_run.specs.Words.{Making}
+use Rattle.host_run.specs.Seen.{SinkSeen}
+use Rattle.host_run.specs.Words.{Making, plans_made}
 use Rattle.host_run.specs.Writes.{PutsText}
 use Rattle.host_run.specs.declared.status.RunStatus.{RunStatus}
 use Rattle.host_run.specs.declared.status.RunStatus.TheVariants.{Done, OutOfMemory, SinkFault}
@@ -20,10 +20,9 @@ IsMakeStatus status = IsPutStatus status
 
 -- the text of the generated script
 abbrev pub made_text : Making → List ℕ
-made_text making = script_text (generated making.seed making.sessions making.requests)
+made_text making = script_text (plans_made making)
 
--- Unless memory was refused, the text of the script was put, whole where the sink's count of faults didn't rise, else a
--- front of it; status 0 says that it was put whole.
-pub record PutsScript (tells : Bool) (old new : List ℕ) (faults new_faults : ℕ) (making : Making) (status : RunStatus) : Type 0 where
-  pub puts : status ≢ OutOfMemory → PutsText tells old new faults new_faults (made_text making)
-  pub done : status ≡ Done → IsTrue tells → new ≡ old ++ made_text making
+-- Unless memory was refused, the text of the script was put, up to a failure of the sink; status 0 says that it was put whole.
+pub record PutsScript (before after : SinkSeen) (making : Making) (status : RunStatus) : Type 0 where
+  pub puts : status ≢ OutOfMemory → PutsText before after (made_text making)
+  pub done : status ≡ Done → IsTrue before.tells → after.appended ≡ before.appended ++ made_text making

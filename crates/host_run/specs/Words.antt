@@ -1,14 +1,18 @@
 -- What the words of a call ask for.
-use Rattle.std.specs.Prelude.{◌≡◌, ◌≤◌, ℕ, Bool, true, false, List, Option, Some, None, unwrap_or, Result, Ok, Err}
+use Rattle.std.specs.Borrow.{Bor}
+use Rattle.std.specs.Prelude.{◌≡◌, ◌≤◌, ℕ, Bool, true, false, List, map, Option, Some, None, unwrap_or, Result, Ok, Err}
 use Rattle.host_report.specs.Summary.{summary_text}
 use Rattle.host_report.specs.Text.{report_text}
 use Rattle.host_report.specs.declared.report.Report.{Report}
+use Rattle.host_run.specs.declared.mode.Mode.{Mode}
 use Rattle.host_run.specs.declared.mode.Text.{Text}
 use Rattle.host_run.specs.declared.mode.Text.TheVariants as text
-use Rattle.host_words.specs.Commands.{Meaning, lists, load, make, meaning_of, run}
+use Rattle.host_words.specs.Commands.{Meaning, command_of, lists, load, make, meaning_of, run}
 use Rattle.host_words.specs.declared.command.Command.{Command}
 use Rattle.host_words.specs.declared.words_error.WordsError.{WordsError}
 use Rattle.host_words.specs.declared.words_error.WordsError.TheVariants as error
+use Rattle.script_model.specs.Generate.{generated}
+use Rattle.script_model.specs.Plans.{SessionPlan}
 
 -- the text of a report, or its summary
 abbrev pub text_of : Text → Report → List ℕ
@@ -17,11 +21,19 @@ text_of text.Summary report = summary_text report
 
 -- ---- what is asked for
 
+-- what the words after the program's name mean
+abbrev pub said_by : List (Bor (List ℕ)) → Option Meaning
+said_by words = command_of (map (λ w. w.now) words)
+
 -- the numbers of a script that is to be made
 pub record Making : Type 0 where
   pub seed : ℕ
   pub sessions : ℕ
   pub requests : ℕ
+
+-- the script that is made of them
+abbrev pub plans_made : Making → List SessionPlan
+plans_made making = generated making.seed making.sessions making.requests
 
 -- A run: its image, the size of a block, workers beside the clients, elements of a ring, whether the closing flush is left
 -- out and whether it is played on a copy, what is put of it, and the script where that isn't read but made.
@@ -34,6 +46,19 @@ pub record Playing : Type 0 where
   pub dry : Bool
   pub told : Text
   pub making : Option Making
+
+-- a run on this image in this mode
+abbrev pub playing_by : List ℕ → ℕ → Mode → Option Making → Playing
+playing_by name size mode making = record {
+  name = name;
+  size = size;
+  workers = mode.setting.workers;
+  depth = mode.setting.depth;
+  cut = mode.setting.cut;
+  dry = mode.dry;
+  told = mode.text;
+  making = making;
+}
 
 -- the run that words of this meaning ask for
 abbrev pub playing_in : Option Meaning → Option Playing

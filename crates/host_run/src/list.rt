@@ -1,9 +1,10 @@
 //! `list`: the text of an image's partition table.
 ghost use Rattle.std.specs.Prelude.{◌≡◌, None};
 ghost use Rattle.host_io.specs.Causes.{Rose};
-ghost use Rattle.host_io.specs.Disks.{OnlyReads, OpensNone};
+ghost use Rattle.host_io.specs.Disks.{OpensNone};
 ghost use Rattle.host_run.specs.Listed.{ListLeaves};
 ghost use Rattle.host_run.specs.Refusals.{refusal_line, start_status};
+ghost use Rattle.host_run.specs.Seen.{WasRead, disk_seen, sink_seen};
 ghost use Rattle.host_run.specs.Writes.{PutsText};
 ghost use Rattle.host_start.specs.declared.error.StartError.TheVariants.{TooLarge};
 ghost use Rattle.host_run.specs.declared.status.RunStatus.TheVariants.{DiskFault, SinkFault};
@@ -28,12 +29,17 @@ pub fn list<D: Disk, K: Sink>(
 ) -> Outcome<D>
     ensures disk_fault { result.status ≡ DiskFault → Rose (D.counts disk).faults (D.counts result.disk).faults }
     ensures sink_fault { result.status ≡ SinkFault → Rose (K.faults out.old) (K.faults out.new) }
-    ensures only_reads { OnlyReads (D.counts disk) (D.counts result.disk) (D.never_fails disk) (D.never_fails result.disk) }
+    ensures only_reads { WasRead (disk_seen D.Disk disk) (disk_seen D.Disk result.disk) }
     ensures opens_none { OpensNone (D.shape disk) (D.shape result.disk) }
     ensures no_dry { result.dry ≡ None }
     ensures no_report { result.report ≡ None }
     ensures not_served { result.served ≡ None }
-    ensures leaves { ListLeaves (record { disk_tells = (D.shape disk).tells; image = D.image_named disk image.now size; size = size; tells = K.tells out.old; old = K.appended out.old; new = K.appended out.new; faults = K.faults out.old; new_faults = K.faults out.new }) result.status }
+    ensures leaves { ListLeaves (record {
+        asked = record { name = image.now; size = size };
+        disk = disk_seen D.Disk disk;
+        sink = sink_seen K.Sink out.old;
+        new_sink = sink_seen K.Sink out.new;
+    }) result.status }
 {
     let mut disk = disk;
     match list_image(alloc, image, size, &mut disk, out) {
@@ -60,7 +66,7 @@ fn no_list<D, K: Sink>(error: StartError, disk: D, out: &mut K) -> Outcome<D>
     ensures no_dry { result.dry ≡ None }
     ensures no_report { result.report ≡ None }
     ensures not_served { result.served ≡ None }
-    ensures line { PutsText (K.tells out.old) (K.appended out.old) (K.appended out.new) (K.faults out.old) (K.faults out.new) (refusal_line (start_status error)) }
+    ensures line { PutsText (sink_seen K.Sink out.old) (sink_seen K.Sink out.new) (refusal_line (start_status error)) }
 {
     refuse(Refusal::NoStart { error }, disk, out)
 }

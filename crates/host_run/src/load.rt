@@ -1,14 +1,14 @@
 //! `load`: a script is generated and played on a copy of an image.
-ghost use Rattle.std.specs.Prelude.{◌≡◌, ◌≢◌, ℕ, IfNone, IfSome, IsTrue};
+ghost use Rattle.std.specs.Prelude.{◌≡◌, ◌≢◌, Some, IfNone, IsTrue};
 ghost use Rattle.host_io.specs.Causes.{Rose};
 ghost use Rattle.host_io.specs.Disks.{OpensNone};
 ghost use Rattle.host_play.specs.Stages.{IsSetting};
-ghost use Rattle.host_run.specs.Ending.{Ends, IsDoneWherePlayable, made};
-ghost use Rattle.host_run.specs.Played.{IsComplete, Leaves};
 ghost use Rattle.host_run.specs.Refusals.{refusal_line};
+ghost use Rattle.host_run.specs.Runs.{RunLeaves};
+ghost use Rattle.host_run.specs.Seen.{SourceSeen, disk_seen, sink_seen};
 ghost use Rattle.host_run.specs.Statuses.{HandsOut, HasRunReport, IsServedAs};
-ghost use Rattle.host_run.specs.Words.{IsMakeable, text_of};
-ghost use Rattle.host_run.specs.Writes.{PutsText, TellsRun};
+ghost use Rattle.host_run.specs.Words.{IsMakeable, playing_by};
+ghost use Rattle.host_run.specs.Writes.{PutsText};
 ghost use Rattle.host_run.specs.declared.status.RunStatus.TheVariants.{BadWords, DiskFault, ScriptFault, SinkFault};
 
 use crate::mode::Mode;
@@ -43,16 +43,23 @@ pub fn load<R: Threads + Wait + Sync, D: Disk + Send, K: Sink, G: Gate + Sync>(
     ensures disk_fault { result.status ≡ DiskFault → Rose (D.counts disk).faults (D.counts result.disk).faults }
     ensures sink_fault { result.status ≡ SinkFault → Rose (K.faults out.old) (K.faults out.new) }
     ensures no_source { result.status ≢ ScriptFault }
-    ensures ends { Ends (record { size = size; workers = mode.setting.workers; depth = mode.setting.depth; origin = made (record { seed = seed; sessions = sessions; requests = requests }); disk_tells = (D.shape disk).tells; image = D.image_named disk image.now size }) result.status result.report }
-    ensures playable { (before now : ℕ) → IsDoneWherePlayable (record { size = size; workers = mode.setting.workers; depth = mode.setting.depth; origin = made (record { seed = seed; sessions = sessions; requests = requests }); disk_tells = (D.shape disk).tells; image = D.image_named disk image.now size }) (Rose before now) (Rose (D.counts disk).faults (D.counts result.disk).faults) (Rose (K.faults out.old) (K.faults out.new)) result.status }
-    ensures leaves { Leaves (record { on_copy = mode.dry; size = size; tells = (D.shape disk).tells; image = D.image_named disk image.now size; state = D.state result.disk; counts = D.counts disk; new_counts = D.counts result.disk; never_fails = D.never_fails disk; still_never_fails = D.never_fails result.disk; copy = result.dry }) mode.setting.cut result.report }
+
+    // What it leaves, whatever the source, which it doesn't touch.
+    ensures run { (source new_source : SourceSeen) → RunLeaves (record {
+        playing = playing_by image.now size mode (Some (record { seed = seed; sessions = sessions; requests = requests }));
+        source = source;
+        new_source = new_source;
+        disk = disk_seen D.Disk disk;
+        new_disk = disk_seen D.Disk result.disk;
+        sink = sink_seen K.Sink out.old;
+        new_sink = sink_seen K.Sink out.new;
+        copy = result.dry;
+    }) result.status result.report }
     ensures opens_none { IsTrue mode.dry → OpensNone (D.shape disk) (D.shape result.disk) }
-    ensures complete { IfSome result.report (IsComplete (Rose (D.counts disk).faults (D.counts result.disk).faults) (Rose (K.faults out.old) (K.faults out.new)) result.status) }
     ensures report { HasRunReport result.status result.report }
     ensures served { IsServedAs result.served result.report }
     ensures dry { HandsOut mode.dry result.dry result.status result.report }
-    ensures text { IfSome result.report (λ report. TellsRun (K.tells out.old) (K.appended out.old) (K.appended out.new) (K.faults out.old) (K.faults out.new) (text_of mode.text report) result.status) }
-    ensures line { IfNone result.report (PutsText (K.tells out.old) (K.appended out.old) (K.appended out.new) (K.faults out.old) (K.faults out.new) (refusal_line result.status)) }
+    ensures line { IfNone result.report (PutsText (sink_seen K.Sink out.old) (sink_seen K.Sink out.new) (refusal_line result.status)) }
 {
     match make_script(alloc, seed, sessions, requests, size) {
         Ok(script) => play_and_tell(rt, alloc, script, image, size, mode, disk, out, gate),

@@ -3,6 +3,7 @@ ghost use Rattle.std.specs.Prelude.{◌≡◌, ◌++◌, IsTrue, None};
 ghost use Rattle.host_io.specs.Causes.{Rose};
 ghost use Rattle.host_run.specs.Made.{IsMakeStatus, IsPutStatus, PutsScript};
 ghost use Rattle.host_run.specs.Refusals.{refusal_line};
+ghost use Rattle.host_run.specs.Seen.{sink_seen};
 ghost use Rattle.host_run.specs.Words.{IsMakeable};
 ghost use Rattle.host_run.specs.Writes.{PutsText};
 ghost use Rattle.host_run.specs.declared.status.RunStatus.TheVariants.{Done, OutOfMemory, SinkFault};
@@ -33,8 +34,8 @@ pub fn make<D, K: Sink>(
     ensures no_dry { result.dry ≡ None }
     ensures no_report { result.report ≡ None }
     ensures not_served { result.served ≡ None }
-    ensures text { PutsScript (K.tells out.old) (K.appended out.old) (K.appended out.new) (K.faults out.old) (K.faults out.new) (record { seed = seed; sessions = sessions; requests = requests }) result.status }
-    ensures line { result.status ≡ OutOfMemory → PutsText (K.tells out.old) (K.appended out.old) (K.appended out.new) (K.faults out.old) (K.faults out.new) (refusal_line OutOfMemory) }
+    ensures text { PutsScript (sink_seen K.Sink out.old) (sink_seen K.Sink out.new) (record { seed = seed; sessions = sessions; requests = requests }) result.status }
+    ensures line { result.status ≡ OutOfMemory → PutsText (sink_seen K.Sink out.old) (sink_seen K.Sink out.new) (refusal_line OutOfMemory) }
 {
     match generate(alloc, seed, sessions, requests) {
         Ok(script) => put_script(&script, disk, out),
@@ -50,7 +51,7 @@ fn put_script<D, K: Sink>(script: &Script, disk: D, out: &mut K) -> Outcome<D>
     ensures no_dry { result.dry ≡ None }
     ensures no_report { result.report ≡ None }
     ensures not_served { result.served ≡ None }
-    ensures text { PutsText (K.tells out.old) (K.appended out.old) (K.appended out.new) (K.faults out.old) (K.faults out.new) (script_text (plans_of script.now)) }
+    ensures text { PutsText (sink_seen K.Sink out.old) (sink_seen K.Sink out.new) (script_text (plans_of script.now)) }
     ensures whole { result.status ≡ Done → IsTrue (K.tells out.old) → K.appended out.new ≡ K.appended out.old ++ script_text (plans_of script.now) }
 {
     let was_written = print_script(script, out).is_ok();

@@ -4,7 +4,9 @@ ghost use Rattle.host_play.specs.Stages.{IsSetting};
 ghost use Rattle.host_start.specs.Reading.{IsFit};
 ghost use Rattle.host_worker.specs.Gathered.{reported};
 ghost use Rattle.script_model.specs.Plans.{plans_of};
-ghost use Rattle.host_run.specs.Played.{IsNoRun, IsPlayOf, IsRunOn};
+ghost use Rattle.host_run.specs.Played.{IsNoRun, IsPlayOf};
+ghost use Rattle.host_run.specs.Runs.{IsRunOn};
+ghost use Rattle.host_run.specs.Seen.{disk_seen};
 
 use crate::ended::{NoRun, PlayedRun};
 use crate::play_start::play_start;
@@ -32,8 +34,22 @@ pub fn play_on_disk<R: Threads + Wait + Sync, D: Disk + Send, G: Gate + Sync>(
     requires setting { IsSetting setting }
     ensures played { IfOk result (λ run. IsPlayOf (plans_of script) setting.workers setting.depth run.report) }
     ensures served { IfOk result (λ run. reported run.served ≡ run.report) }
-    ensures ran { IfOk result (λ run. IsRunOn (record { on_copy = false; size = size; tells = (D.shape disk).tells; image = D.image_named disk image.now size; state = D.state run.disk; counts = D.counts disk; new_counts = D.counts run.disk; never_fails = D.never_fails disk; still_never_fails = D.never_fails run.disk; copy = run.dry }) setting.cut run.report) }
-    ensures refused { IfErr result (λ no. IsNoRun (record { on_copy = false; size = size; tells = (D.shape disk).tells; image = D.image_named disk image.now size; state = D.state no.disk; counts = D.counts disk; new_counts = D.counts no.disk; never_fails = D.never_fails disk; still_never_fails = D.never_fails no.disk; copy = no.dry }) (plans_of script) no.error) }
+    ensures ran { IfOk result (λ run. IsRunOn (record {
+        name = image.now;
+        size = size;
+        on_copy = false;
+        disk = disk_seen D.Disk disk;
+        new_disk = disk_seen D.Disk run.disk;
+        copy = run.dry;
+    }) setting.cut run.report) }
+    ensures refused { IfErr result (λ no. IsNoRun (record {
+        name = image.now;
+        size = size;
+        on_copy = false;
+        disk = disk_seen D.Disk disk;
+        new_disk = disk_seen D.Disk no.disk;
+        copy = no.dry;
+    }) (plans_of script) no.error) }
 {
     let mut disk = disk;
     match start_on_disk(alloc, script, &mut disk, image, size) {

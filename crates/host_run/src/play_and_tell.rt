@@ -1,20 +1,20 @@
 //! A script is played and told.
-ghost use Rattle.std.specs.Prelude.{◌≡◌, ◌≢◌, IfNone, IfSome, IsTrue};
+ghost use Rattle.std.specs.Prelude.{◌≡◌, ◌≢◌, Option, IfErr, IfNone, IfOk, IsTrue};
 ghost use Rattle.host_io.specs.Causes.{Rose};
 ghost use Rattle.host_io.specs.Disks.{OpensNone};
 ghost use Rattle.host_play.specs.Stages.{IsSetting};
-ghost use Rattle.host_run.specs.Ending.{Ends, IsItsScript, Origin};
-ghost use Rattle.host_run.specs.Played.{IsComplete, Leaves};
+ghost use Rattle.host_run.specs.Ending.{IsScriptOf};
 ghost use Rattle.host_run.specs.Refusals.{refusal_line};
+ghost use Rattle.host_run.specs.Runs.{IsRunOn, RunLeaves};
+ghost use Rattle.host_run.specs.Seen.{SourceSeen, disk_seen, sink_seen};
 ghost use Rattle.host_run.specs.Statuses.{HandsOut, HasRunReport, IsServedAs};
-ghost use Rattle.host_run.specs.Words.{text_of};
-ghost use Rattle.host_run.specs.Writes.{PutsText, TellsRun};
+ghost use Rattle.host_run.specs.Words.{Making, playing_by};
+ghost use Rattle.host_run.specs.Writes.{PutsText};
 ghost use Rattle.host_run.specs.declared.status.RunStatus.TheVariants.{BadWords, DiskFault, ScriptFault, SinkFault};
 ghost use Rattle.host_start.specs.Reading.{IsFit};
 ghost use Rattle.host_worker.specs.Gathered.{reported};
 ghost use Rattle.script_model.specs.Plans.{plans_of};
-ghost use Rattle.std.specs.Prelude.{IfErr, IfOk};
-ghost use Rattle.host_run.specs.Played.{IsNoRun, IsPlayOf, IsRunOn};
+ghost use Rattle.host_run.specs.Played.{IsNoRun, IsPlayOf};
 
 use crate::ended::{NoRun, PlayedRun};
 use crate::mode::Mode;
@@ -50,16 +50,22 @@ pub fn play_and_tell<R: Threads + Wait + Sync, D: Disk + Send, K: Sink, G: Gate 
     ensures sink_fault { result.status ≡ SinkFault → Rose (K.faults out.old) (K.faults out.new) }
     ensures no_source { result.status ≢ ScriptFault }
 
-    // How it ends, wherever the script comes from.
-    ensures ends { (origin : Origin) → IsItsScript size origin (plans_of script) → Ends (record { size = size; workers = mode.setting.workers; depth = mode.setting.depth; origin = origin; disk_tells = (D.shape disk).tells; image = D.image_named disk image.now size }) result.status result.report }
-    ensures leaves { Leaves (record { on_copy = mode.dry; size = size; tells = (D.shape disk).tells; image = D.image_named disk image.now size; state = D.state result.disk; counts = D.counts disk; new_counts = D.counts result.disk; never_fails = D.never_fails disk; still_never_fails = D.never_fails result.disk; copy = result.dry }) mode.setting.cut result.report }
+    // What it leaves, wherever the script comes from.
+    ensures run { (making : Option Making) (source new_source : SourceSeen) → IsScriptOf size making source new_source (plans_of script) → RunLeaves (record {
+        playing = playing_by image.now size mode making;
+        source = source;
+        new_source = new_source;
+        disk = disk_seen D.Disk disk;
+        new_disk = disk_seen D.Disk result.disk;
+        sink = sink_seen K.Sink out.old;
+        new_sink = sink_seen K.Sink out.new;
+        copy = result.dry;
+    }) result.status result.report }
     ensures opens_none { IsTrue mode.dry → OpensNone (D.shape disk) (D.shape result.disk) }
-    ensures complete { IfSome result.report (IsComplete (Rose (D.counts disk).faults (D.counts result.disk).faults) (Rose (K.faults out.old) (K.faults out.new)) result.status) }
     ensures report { HasRunReport result.status result.report }
     ensures served { IsServedAs result.served result.report }
     ensures dry { HandsOut mode.dry result.dry result.status result.report }
-    ensures text { IfSome result.report (λ report. TellsRun (K.tells out.old) (K.appended out.old) (K.appended out.new) (K.faults out.old) (K.faults out.new) (text_of mode.text report) result.status) }
-    ensures line { IfNone result.report (PutsText (K.tells out.old) (K.appended out.old) (K.appended out.new) (K.faults out.old) (K.faults out.new) (refusal_line result.status)) }
+    ensures line { IfNone result.report (PutsText (sink_seen K.Sink out.old) (sink_seen K.Sink out.new) (refusal_line result.status)) }
 {
     match play_script(rt, alloc, script, image, size, mode, disk, gate) {
         Ok(run) => tell(run, mode.text, out),
@@ -82,8 +88,22 @@ fn play_script<R: Threads + Wait + Sync, D: Disk + Send, G: Gate + Sync>(
     requires setting { IsSetting mode.setting }
     ensures played { IfOk result (λ run. IsPlayOf (plans_of script) mode.setting.workers mode.setting.depth run.report) }
     ensures served { IfOk result (λ run. reported run.served ≡ run.report) }
-    ensures ran { IfOk result (λ run. IsRunOn (record { on_copy = mode.dry; size = size; tells = (D.shape disk).tells; image = D.image_named disk image.now size; state = D.state run.disk; counts = D.counts disk; new_counts = D.counts run.disk; never_fails = D.never_fails disk; still_never_fails = D.never_fails run.disk; copy = run.dry }) mode.setting.cut run.report) }
-    ensures refused { IfErr result (λ no. IsNoRun (record { on_copy = mode.dry; size = size; tells = (D.shape disk).tells; image = D.image_named disk image.now size; state = D.state no.disk; counts = D.counts disk; new_counts = D.counts no.disk; never_fails = D.never_fails disk; still_never_fails = D.never_fails no.disk; copy = no.dry }) (plans_of script) no.error) }
+    ensures ran { IfOk result (λ run. IsRunOn (record {
+        name = image.now;
+        size = size;
+        on_copy = mode.dry;
+        disk = disk_seen D.Disk disk;
+        new_disk = disk_seen D.Disk run.disk;
+        copy = run.dry;
+    }) mode.setting.cut run.report) }
+    ensures refused { IfErr result (λ no. IsNoRun (record {
+        name = image.now;
+        size = size;
+        on_copy = mode.dry;
+        disk = disk_seen D.Disk disk;
+        new_disk = disk_seen D.Disk no.disk;
+        copy = no.dry;
+    }) (plans_of script) no.error) }
     ensures opens_none { IsTrue mode.dry → IfOk result (λ run. OpensNone (D.shape disk) (D.shape run.disk)) }
     ensures refused_opens_none { IsTrue mode.dry → IfErr result (λ no. OpensNone (D.shape disk) (D.shape no.disk)) }
 {

@@ -1,12 +1,12 @@
 //! A start is played on the disk that holds its image.
-ghost use Rattle.std.specs.Prelude.{◌≡◌, ◌↔◌, ℕ, List, IfErr, IfOk, IsTrue, length, map, true};
+ghost use Rattle.std.specs.Prelude.{◌≡◌, ◌↔◌, ℕ, Bool, List, IfErr, IfOk, IsTrue, length, map, true};
 ghost use Rattle.host_device.specs.Faults.{RoseBy, faulted_count};
 ghost use Rattle.host_play.specs.Plays.{IsReportOf};
 ghost use Rattle.host_play.specs.Stages.{IsGround, IsSetting};
 ghost use Rattle.host_report.specs.declared.closing.Closing.TheVariants.{Cut as WasCut};
 ghost use Rattle.host_start.specs.Images.{IsPlaced};
 ghost use Rattle.host_worker.specs.Gathered.{reported};
-ghost use Rattle.play_law.specs.Runs.{IsSound};
+ghost use Rattle.play_law.specs.Runs.{IsLaidOut, IsSound};
 ghost use Rattle.report_law.specs.Runs.{IsLawfulOnAnyDisk};
 ghost use Rattle.script_model.specs.Plans.{plans_of};
 ghost use Rattle.script_played.specs.Played.{PlaysPlans};
@@ -36,6 +36,7 @@ pub fn play_start<R: Threads + Wait + Sync, D: Disk + Send, G: Gate + Sync>(
     // What was played, and by what.
     ensures played { IfOk result (λ run. PlaysPlans (plans_of start.now.script) run.report) }
     ensures lawful { IfOk result (λ run. IsLawfulOnAnyDisk run.report) }
+    ensures laid_out { (tells : Bool) (image : List (List ℕ)) → IsPlaced tells image start.now → IfOk result (λ run. IsLaidOut run.report) }
     ensures report { IfOk result (λ run. IsReportOf (plans_of start.now.script) (ranges_in run.report) setting.workers setting.depth run.report) }
     ensures served { IfOk result (λ run. reported run.served ≡ run.report) }
     ensures size { IfOk result (λ run. run.report.size ≡ start.now.size) }

@@ -2,6 +2,7 @@
 ghost use Rattle.std.specs.Prelude.{◌≡◌, None};
 ghost use Rattle.host_io.specs.Causes.{HasCause};
 ghost use Rattle.host_run.specs.Refusals.{refusal_line, refused_status, start_status};
+ghost use Rattle.host_run.specs.Seen.{sink_seen};
 ghost use Rattle.host_run.specs.Statuses.{HasRunReport};
 ghost use Rattle.host_run.specs.Writes.{PutsText};
 ghost use Rattle.host_run.specs.declared.status.RunStatus.TheVariants.{BadScript, NoPart, TooLarge};
@@ -32,7 +33,7 @@ pub fn refuse_on<D, K: Sink>(
     ensures no_report { result.report ≡ None }
     ensures not_served { result.served ≡ None }
     ensures report { HasRunReport result.status result.report }
-    ensures line { PutsText (K.tells out.old) (K.appended out.old) (K.appended out.new) (K.faults out.old) (K.faults out.new) (refusal_line (refused_status refusal)) }
+    ensures line { PutsText (sink_seen K.Sink out.old) (sink_seen K.Sink out.new) (refusal_line (refused_status refusal)) }
 {
     let _ = put_refusal(refusal, out);
     Outcome {
@@ -52,7 +53,7 @@ pub fn refuse<D, K: Sink>(refusal: Refusal, disk: D, out: &mut K) -> Outcome<D>
     ensures no_report { result.report ≡ None }
     ensures not_served { result.served ≡ None }
     ensures report { HasRunReport result.status result.report }
-    ensures line { PutsText (K.tells out.old) (K.appended out.old) (K.appended out.new) (K.faults out.old) (K.faults out.new) (refusal_line (refused_status refusal)) }
+    ensures line { PutsText (sink_seen K.Sink out.old) (sink_seen K.Sink out.new) (refusal_line (refused_status refusal)) }
 {
     refuse_on(refusal, None, disk, out)
 }

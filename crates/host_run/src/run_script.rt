@@ -1,14 +1,14 @@
 //! `run`: a script is read and played.
-ghost use Rattle.std.specs.Prelude.{◌≡◌, ◌≢◌, IfNone, IfSome, IsTrue};
+ghost use Rattle.std.specs.Prelude.{◌≡◌, ◌≢◌, None, IfNone, IsTrue};
 ghost use Rattle.host_io.specs.Causes.{Rose};
 ghost use Rattle.host_io.specs.Disks.{OpensNone};
 ghost use Rattle.host_play.specs.Stages.{IsSetting};
-ghost use Rattle.host_run.specs.Ending.{Ends, IsDoneWherePlayable, read};
-ghost use Rattle.host_run.specs.Played.{IsComplete, Leaves};
 ghost use Rattle.host_run.specs.Refusals.{refusal_line};
+ghost use Rattle.host_run.specs.Runs.{RunLeaves};
+ghost use Rattle.host_run.specs.Seen.{disk_seen, sink_seen, source_seen};
 ghost use Rattle.host_run.specs.Statuses.{HandsOut, HasRunReport, IsServedAs};
-ghost use Rattle.host_run.specs.Words.{text_of};
-ghost use Rattle.host_run.specs.Writes.{PutsText, TellsRun};
+ghost use Rattle.host_run.specs.Words.{playing_by};
+ghost use Rattle.host_run.specs.Writes.{PutsText};
 ghost use Rattle.host_run.specs.declared.status.RunStatus.TheVariants.{BadWords, DiskFault, ScriptFault, SinkFault};
 
 use crate::mode::Mode;
@@ -40,16 +40,21 @@ pub fn run_script<R: Threads + Wait + Sync, S: Source, D: Disk + Send, K: Sink, 
     ensures disk_fault { result.status ≡ DiskFault → Rose (D.counts disk).faults (D.counts result.disk).faults }
     ensures sink_fault { result.status ≡ SinkFault → Rose (K.faults out.old) (K.faults out.new) }
     ensures script_fault { result.status ≡ ScriptFault → Rose (S.faults source.old) (S.faults source.new) }
-    ensures ends { Ends (record { size = size; workers = mode.setting.workers; depth = mode.setting.depth; origin = read (S.tells source.old) (S.left source.old) (S.left source.new); disk_tells = (D.shape disk).tells; image = D.image_named disk image.now size }) result.status result.report }
-    ensures playable { IsDoneWherePlayable (record { size = size; workers = mode.setting.workers; depth = mode.setting.depth; origin = read (S.tells source.old) (S.left source.old) (S.left source.new); disk_tells = (D.shape disk).tells; image = D.image_named disk image.now size }) (Rose (S.faults source.old) (S.faults source.new)) (Rose (D.counts disk).faults (D.counts result.disk).faults) (Rose (K.faults out.old) (K.faults out.new)) result.status }
-    ensures leaves { Leaves (record { on_copy = mode.dry; size = size; tells = (D.shape disk).tells; image = D.image_named disk image.now size; state = D.state result.disk; counts = D.counts disk; new_counts = D.counts result.disk; never_fails = D.never_fails disk; still_never_fails = D.never_fails result.disk; copy = result.dry }) mode.setting.cut result.report }
+    ensures run { RunLeaves (record {
+        playing = playing_by image.now size mode None;
+        source = source_seen S.Source source.old;
+        new_source = source_seen S.Source source.new;
+        disk = disk_seen D.Disk disk;
+        new_disk = disk_seen D.Disk result.disk;
+        sink = sink_seen K.Sink out.old;
+        new_sink = sink_seen K.Sink out.new;
+        copy = result.dry;
+    }) result.status result.report }
     ensures opens_none { IsTrue mode.dry → OpensNone (D.shape disk) (D.shape result.disk) }
-    ensures complete { IfSome result.report (IsComplete (Rose (D.counts disk).faults (D.counts result.disk).faults) (Rose (K.faults out.old) (K.faults out.new)) result.status) }
     ensures report { HasRunReport result.status result.report }
     ensures served { IsServedAs result.served result.report }
     ensures dry { HandsOut mode.dry result.dry result.status result.report }
-    ensures text { IfSome result.report (λ report. TellsRun (K.tells out.old) (K.appended out.old) (K.appended out.new) (K.faults out.old) (K.faults out.new) (text_of mode.text report) result.status) }
-    ensures line { IfNone result.report (PutsText (K.tells out.old) (K.appended out.old) (K.appended out.new) (K.faults out.old) (K.faults out.new) (refusal_line result.status)) }
+    ensures line { IfNone result.report (PutsText (sink_seen K.Sink out.old) (sink_seen K.Sink out.new) (refusal_line result.status)) }
 {
     match read_script(alloc, source, size) {
         Ok(script) => play_and_tell(rt, alloc, script, image, size, mode, disk, out, gate),

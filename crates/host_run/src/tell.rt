@@ -1,6 +1,7 @@
 //! A run that was played is told.
 ghost use Rattle.std.specs.Prelude.{◌≡◌, Some};
 ghost use Rattle.host_io.specs.Causes.{HasCause, Rose};
+ghost use Rattle.host_run.specs.Seen.{sink_seen};
 ghost use Rattle.host_run.specs.Statuses.{HasRunReport, IsEndStatus, played_status};
 ghost use Rattle.host_run.specs.Words.{text_of};
 ghost use Rattle.host_run.specs.Writes.{TellsRun};
@@ -23,7 +24,7 @@ pub fn tell<D, K: Sink>(run: PlayedRun<D>, text: Text, out: &mut K) -> Outcome<D
     ensures dry { result.dry ≡ run.dry }
     ensures report { result.report ≡ Some run.report }
     ensures served { result.served ≡ Some run.served }
-    ensures text { TellsRun (K.tells out.old) (K.appended out.old) (K.appended out.new) (K.faults out.old) (K.faults out.new) (text_of text run.report) result.status }
+    ensures text { TellsRun (sink_seen K.Sink out.old) (sink_seen K.Sink out.new) (text_of text run.report) result.status }
 {
     let was_written = put_text(&run.report, text, out).is_ok();
     Outcome {

@@ -1,30 +1,39 @@
-use Rattle.std.proofs.Common.{Err, subst}
-use Rattle.host_io.specs.Causes.{Rose}
+use Rattle.std.proofs.Common.{Err, None, Option, Some, ap, inl, subst, sym}
+use Rattle.host_io.specs.declared.mem_disk.MemDisk.{MemDisk}
+use Rattle.host_report.specs.declared.report.Report.{Report}
 use Rattle.host_start.specs.Reading.{Makes}
 use Rattle.host_start.specs.declared.error.StartError.{StartError}
-use Rattle.script_model.specs.Generate.{generated}
-use Rattle.host_run.specs.Ending.{Call, Origin, made}
-use Rattle.host_run.proofs.Playable.{done_playable, script_playable}
+use Rattle.host_run.specs.Runs.{RunLeaves}
+use Rattle.host_run.specs.Scene.{Scene}
+use Rattle.host_run.specs.Seen.{disk_seen, sink_seen}
+use Rattle.host_run.specs.Words.{Making, plans_made, playing_by}
+use Rattle.host_run.proofs.Left.{refused_leaves, untouched}
 use Rattle.host_run.proofs.load.load.Goals as goal
 
-pub returns-in-Ok-clause-playable : goal.returns-in-Ok-clause-playable
-returns-in-Ok-clause-playable g c = λ before now.
-    let origin : Origin = made (record { seed = c.args.seed; sessions = c.args.sessions; requests = c.args.requests }) in
-    let setting = c.args.mode.setting in
-    let call : Call = record { size = c.args.size; workers = setting.workers; depth = setting.depth; origin = origin; disk_tells = (g.D.Disk.shape c.args.disk).tells; image = g.D.Disk.image_named c.args.disk c.args.image.now c.args.size } in
-    let played = c.play_and_tell in
-    done_playable call played.result.status played.result.report (Rose before now)
-    (Rose (g.D.Disk.counts c.args.disk).faults (g.D.Disk.counts played.result.disk).faults)
-    (Rose (g.K.Sink.faults c.args.out.now) (g.K.Sink.faults played.new.out))
-    (played.ensures.ends origin (c.in-Ok.ensures.script.0, c.in-Ok.ensures.fit.limits)) played.ensures.complete (λ is. absurd (played.ensures.no_source is)) played.ensures.disk_fault
+pub returns-in-Ok-clause-run : goal.returns-in-Ok-clause-run
+returns-in-Ok-clause-run g c = λ source new_source.
+    c.play_and_tell.ensures.run (Some (record { seed = c.args.seed; sessions = c.args.sessions; requests = c.args.requests })) source new_source (c.in-Ok.ensures.script.0, c.in-Ok.ensures.fit.limits)
 
-pub returns-in-Err-clause-playable : goal.returns-in-Err-clause-playable
-returns-in-Err-clause-playable g c = λ before now.
-    let origin : Origin = made (record { seed = c.args.seed; sessions = c.args.sessions; requests = c.args.requests }) in
-    let setting = c.args.mode.setting in
-    let call : Call = record { size = c.args.size; workers = setting.workers; depth = setting.depth; origin = origin; disk_tells = (g.D.Disk.shape c.args.disk).tells; image = g.D.Disk.image_named c.args.disk c.args.image.now c.args.size } in
-    script_playable call c.refuse.result.status c.in-Err.error (Rose before now)
-    (Rose (g.D.Disk.counts c.args.disk).faults (g.D.Disk.counts c.refuse.result.disk).faults)
-    (Rose (g.K.Sink.faults c.args.out.now) (g.K.Sink.faults c.refuse.new.out))
-    c.refuse.ensures.status (record { cause = c.in-Err.ensures.cause; says = c.in-Err.ensures.script })
-    (λ same. absurd (subst (λ (e : StartError). Makes c.args.size (generated c.args.seed c.args.sessions c.args.requests) (Err e)) same c.in-Err.ensures.script))
+pub returns-in-Err-clause-run : goal.returns-in-Err-clause-run
+returns-in-Err-clause-run g c = λ source new_source.
+    let told = c.refuse.ensures in
+    let making : Making = record { seed = c.args.seed; sessions = c.args.sessions; requests = c.args.requests } in
+    let scene : Option MemDisk → Scene = λ dry. record {
+      playing = playing_by c.args.image.now c.args.size c.args.mode (Some making);
+      source = source;
+      new_source = new_source;
+      disk = disk_seen g.D.Disk c.args.disk;
+      new_disk = disk_seen g.D.Disk c.refuse.result.disk;
+      sink = sink_seen g.K.Sink c.args.out.now;
+      new_sink = sink_seen g.K.Sink c.refuse.new.out;
+      copy = dry;
+    } in
+    let status = c.refuse.result.status in
+    let reads = untouched (disk_seen g.D.Disk c.args.disk) (disk_seen g.D.Disk c.refuse.result.disk) (ap (λ d. disk_seen g.D.Disk d) told.disk) in
+    let says : Makes c.args.size (plans_made making) (Err c.in-Err.error) = c.in-Err.ensures.script in
+    subst (λ (r : Option Report). RunLeaves (scene c.refuse.result.dry) status r) (sym told.no_report)
+    (subst (λ (dry : Option MemDisk). RunLeaves (scene dry) status None) (sym told.no_dry)
+    (refused_leaves (scene None) status c.in-Err.error told.status
+    (inl (record { cause = c.in-Err.ensures.cause; says = says }))
+    (λ same. absurd (subst (λ (e : StartError). Makes c.args.size (plans_made making) (Err e)) same says)) (λ same. absurd (subst (λ (e : StartError). Makes c.args.size (plans_made making) (Err e)) same says))
+    (record { reads = reads; opened = λ told. tt })))

@@ -1,4 +1,4 @@
-use Rattle.std.proofs.Common.{◌≡◌, ◌∙◌, ℕ, List, ap, refl, subst, sym}
+use Rattle.std.proofs.Common.{◌≡◌, ◌∙◌, ℕ, List, true, ap, refl, subst, sym}
 use Rattle.crash_law.specs.Survival.{KeepsFlushed}
 use Rattle.host_block.specs.Crash.{IsCrashImage}
 use Rattle.host_block.specs.Disk.{DiskState}
@@ -9,7 +9,7 @@ use Rattle.host_model.specs.Changes.{changes_of}
 use Rattle.host_report.specs.Lawful.{IsLawful}
 use Rattle.host_start.specs.Copies.{image_in}
 use Rattle.script_model.specs.Plans.{plans_of}
-use Rattle.host_run.specs.Copies.{opening_image}
+use Rattle.host_run.specs.Scene.{opening_image}
 use Rattle.host_run.proofs.Faults.{none_faulted, rose_by_none}
 use Rattle.host_run.proofs.Starts.{as_many}
 use Rattle.host_run.proofs.on_copy.play_on_copy.Goals as goal
@@ -31,14 +31,18 @@ returns-in-Ok-play_start-clause-ran g c =
     let before = (g.D.Disk.counts c.args.disk).faults in
     let after = (g.D.Disk.counts c.start_on_copy.new.disk).faults in
     record {
-      size_is = ran.size ∙ ready.size;
-      cut_is = ran.cut;
-      copy_is = (λ h. refl, λ h. refl);
-      opened = λ told. same ∙ ready.copied told;
+      answered = ran.lawful;
+      laid_out = ran.laid_out true (image_in copy) ready.placed;
       lawful = λ told. subst (λ (i : List (List ℕ)). IsLawful i run.report) (sym same) sound.lawful;
       outlives = λ told left crash. subst (λ (i : List (List ℕ)). IsCrashImage i (changes_of run.report.steps.items) left) (sym same) (sound.crashes left crash);
       keeps = record { kept = λ told left crash. subst (λ (i : List (List ℕ)). KeepsFlushed i run.report left) (sym same) (sound.flushed left crash) };
-      faults = subst (λ (n : ℕ). RoseBy n before after) (sym none) (rose_by_none before after ready.only_reads.later);
-      no_faults = λ on_copy. none;
-      reads = λ on_copy. ready.only_reads;
+      left = record {
+        size_is = ran.size ∙ ready.size;
+        cut_is = ran.cut;
+        copy_is = (λ h. refl, λ h. refl);
+        opened = λ told. same ∙ ready.copied told;
+        faults = subst (λ (n : ℕ). RoseBy n before after) (sym none) (rose_by_none before after ready.only_reads.later);
+        no_faults = λ on_copy. none;
+        reads = λ on_copy. ready.only_reads;
+      };
     }

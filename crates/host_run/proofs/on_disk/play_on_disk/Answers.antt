@@ -20,14 +20,18 @@ returns-in-Ok-play_start-clause-ran g c =
     let before = (g.D.Disk.counts c.args.disk).faults in
     let after = (g.D.Disk.counts run.disk).faults in
     record {
-      size_is = ran.size ∙ ready.size;
-      cut_is = ran.cut;
-      copy_is = (λ h. absurd (cc h), λ h. absurd (cc h));
-      opened = λ told. tt;
+      answered = ran.lawful;
+      laid_out = ran.laid_out (g.D.Disk.shape c.args.disk).tells image ready.placed;
       lawful = λ told. (sound told).lawful;
       outlives = λ told. (sound told).crashes;
       keeps = record { kept = λ told. (sound told).flushed };
-      faults = rose_before (faulted_count run.report.steps.items) before (g.D.Disk.counts c.start_on_disk.new.disk).faults after ready.only_reads.later ran.faults;
-      no_faults = λ on_copy. absurd (cc on_copy);
-      reads = λ on_copy. absurd (cc on_copy);
+      left = record {
+        size_is = ran.size ∙ ready.size;
+        cut_is = ran.cut;
+        copy_is = (λ h. absurd (cc h), λ h. absurd (cc h));
+        opened = λ told. tt;
+        faults = rose_before (faulted_count run.report.steps.items) before (g.D.Disk.counts c.start_on_disk.new.disk).faults after ready.only_reads.later ran.faults;
+        no_faults = λ on_copy. absurd (cc on_copy);
+        reads = λ on_copy. absurd (cc on_copy);
+      };
     }

@@ -4,12 +4,12 @@ use Rattle.host_block.specs.declared.range.Range.{Range}
 use Rattle.host_model.specs.Changes.{changes_of}
 use Rattle.host_play.specs.Plays.{IsReportOf, KeepsImage}
 use Rattle.host_start.specs.declared.places.Place.{Place}
-use Rattle.play_law.proofs.Runs.{played_runs_are_sound}
-use Rattle.play_law.specs.Runs.{IsSound}
+use Rattle.play_law.proofs.Runs.{played_runs_are_laid_out, played_runs_are_sound}
+use Rattle.play_law.specs.Runs.{IsLaidOut, IsSound}
 use Rattle.script_model.specs.Plans.{plans_of}
 use Rattle.report_law.proofs.Reports.{gathered_runs_are_lawful}
 use Rattle.report_law.specs.Runs.{IsLawfulOnAnyDisk}
-use Rattle.host_run.proofs.Starts.{on_one, on_three, ranges_inside}
+use Rattle.host_run.proofs.Starts.{on_one, on_three, on_two, ranges_inside}
 use Rattle.host_run.proofs.play_start.play_start.Goals as goal
 
 pub play-requires-clause-inside : goal.play-requires-clause-inside
@@ -44,3 +44,18 @@ returns-clause-lawful g c =
     (λ run. IsLawfulOnAnyDisk run.report)
     (λ run of. gathered_runs_are_lawful of.ends run.report of.gathered)
     c.play.ensures.report
+
+pub returns-clause-laid_out : goal.returns-clause-laid_out
+returns-clause-laid_out g c = λ tells image placed.
+    let start = c.args.start.now in
+    let ranges : List Range = map (λ (p : Place). p.range) start.places.items in
+    let same : c.deref.result.now ≡ ranges = c.deref.ensures.value ∙ (c.in-Ok.ensures ∙ ap (map (λ (p : Place). p.range)) c.as_slice.ensures.value) in
+    let workers = c.args.setting.workers in
+    let depth = c.args.setting.depth in
+    on_two c.play.result
+    (λ run. IsReportOf (plans_of start.script) ranges workers depth run.report)
+    (λ run. (run.report.blocks ≡ start.blocks) × (run.report.size ≡ start.size) × (run.report.which ≡ start.which))
+    (λ run. IsLaidOut run.report)
+    (λ run of shown. played_runs_are_laid_out tells image start workers depth run.report placed shown.0 of)
+    (subst (λ (l : List Range). IfOk c.play.result (λ run. IsReportOf (plans_of start.script) l workers depth run.report)) same c.play.ensures.report)
+    c.play.ensures.image

@@ -1,40 +1,52 @@
-use Rattle.std.proofs.Common.{◌≢◌, ◌∙◌, ap, map}
-use Rattle.host_run.specs.Ending.{Call, origin_of}
+use Rattle.std.proofs.Common.{◌≡◌, ◌≢◌, ◌∙◌, Option, ap, refl, subst, sym}
+use Rattle.std.specs.Prelude.{IfSome}
+use Rattle.host_io.specs.declared.mem_disk.MemDisk.{MemDisk}
 use Rattle.host_run.specs.Listed.{Listing}
 use Rattle.host_run.specs.Refusals.{refusal_line, refused_status}
-use Rattle.host_run.specs.Words.{Playing, playing_in}
+use Rattle.host_run.specs.Scene.{Scene, opening_image}
+use Rattle.host_run.specs.Seen.{disk_seen, sink_seen, source_seen}
+use Rattle.host_run.specs.Words.{Playing, playing_in, said_by}
 use Rattle.host_run.specs.Writes.{PutsText}
 use Rattle.host_run.specs.declared.status.RunStatus.TheVariants.{Done, SinkFault}
-use Rattle.host_run.proofs.Calls.{if_none, listed_line, oom_ends}
-use Rattle.host_words.specs.Commands.{command_of}
+use Rattle.host_run.proofs.Calls.{if_none, listed_line}
+use Rattle.host_run.proofs.Left.{copy_reads, oom_leaves, refusal_reads, untouched}
 use Rattle.host_run.proofs.top_call.run.Goals as goal
 
-pub returns-in-Err-Oom-clause-ends : goal.returns-in-Err-Oom-clause-ends
-returns-in-Err-Oom-clause-ends g c =
-    let source = c.args.script.now in
-    let left = g.S.Source.left source in
-    let call : Playing → Call = λ playing. record {
-      size = playing.size;
-      workers = playing.workers;
-      depth = playing.depth;
-      origin = origin_of playing.making (g.S.Source.tells source) left left;
-      disk_tells = (g.D.Disk.shape c.args.disk).tells;
-      image = g.D.Disk.image_named c.args.disk playing.name playing.size;
-    } in
+pub returns-in-Err-Oom-clause-run : goal.returns-in-Err-Oom-clause-run
+returns-in-Err-Oom-clause-run g c =
     let left = c.refuse-in-Err-Oom in
-    oom_ends (playing_in (command_of (map (λ w. w.now) c.args.words.now))) call left.result.status left.result.report (left.ensures.status ∙ ap refused_status c.memory.ensures) left.ensures.no_report
+    let disk = disk_seen g.D.Disk c.args.disk in
+    let new_disk = disk_seen g.D.Disk left.result.disk in
+    let scene : Playing → Scene = λ playing. record {
+      playing = playing;
+      source = source_seen g.S.Source c.args.script.now;
+      new_source = source_seen g.S.Source c.args.script.now;
+      disk = disk;
+      new_disk = new_disk;
+      sink = sink_seen g.K.Sink c.args.out.now;
+      new_sink = sink_seen g.K.Sink left.new.out;
+      copy = left.result.dry;
+    } in
+    oom_leaves (playing_in (said_by c.args.words.now)) scene left.result.status left.result.report (left.ensures.status ∙ ap refused_status c.memory.ensures) left.ensures.no_report
+    (λ playing. record { reads = untouched disk new_disk (ap (λ d. disk_seen g.D.Disk d) left.ensures.disk); opened = λ told. subst (λ (copy : Option MemDisk). IfSome copy (λ copy. opening_image playing.size copy ≡ g.D.Disk.image_named c.args.disk playing.name playing.size)) (sym left.ensures.no_dry) tt })
 
 pub returns-in-List-clause-line : goal.returns-in-List-clause-line
 returns-in-List-clause-line g c =
     let l : Listing = record {
-      disk_tells = (g.D.Disk.shape c.args.disk).tells;
-      image = g.D.Disk.image_named c.args.disk c.in-List.image.now c.in-List.block;
-      size = c.in-List.block;
-      tells = g.K.Sink.tells c.args.out.now;
-      old = g.K.Sink.appended c.args.out.now;
-      new = g.K.Sink.appended c.list.new.out;
-      faults = g.K.Sink.faults c.args.out.now;
-      new_faults = g.K.Sink.faults c.list.new.out;
+      asked = record { name = c.in-List.image.now; size = c.in-List.block };
+      disk = disk_seen g.D.Disk c.args.disk;
+      sink = sink_seen g.K.Sink c.args.out.now;
+      new_sink = sink_seen g.K.Sink c.list.new.out;
     } in
     let s = c.list.result.status in
-    if_none c.list.result.report (s ≢ Done → s ≢ SinkFault → PutsText l.tells l.old l.new l.faults l.new_faults (refusal_line s)) (listed_line l s c.list.ensures.leaves)
+    if_none c.list.result.report (s ≢ Done → s ≢ SinkFault → PutsText l.sink l.new_sink (refusal_line s)) (listed_line l s c.list.ensures.leaves)
+
+pub returns-in-Load-clause-only_reads : goal.returns-in-Load-clause-only_reads
+returns-in-Load-clause-only_reads g c = λ plays.
+    let source = source_seen g.S.Source c.args.script.now in
+    copy_reads (c.load.ensures.run source source) refl
+
+pub returns-in-Load-clause-refused_reads : goal.returns-in-Load-clause-refused_reads
+returns-in-Load-clause-refused_reads g c =
+    let source = source_seen g.S.Source c.args.script.now in
+    refusal_reads (c.load.ensures.run source source)

@@ -1,0 +1,39 @@
+-- What the report of a run promises.
+use Rattle.std.specs.Prelude.{ℕ, IsTrue, List}
+use Rattle.crash_law.specs.Survival.{KeepsFlushed}
+use Rattle.host_block.specs.Crash.{IsCrashImage}
+use Rattle.host_block.specs.Disk.{IsCrashOf}
+use Rattle.host_model.specs.Changes.{changes_of}
+use Rattle.host_report.specs.Lawful.{IsLawful}
+use Rattle.host_report.specs.declared.report.Report.{Report}
+use Rattle.play_law.specs.Runs.{IsLaidOut}
+use Rattle.report_law.specs.Runs.{IsLawfulOnAnyDisk}
+use Rattle.host_run.specs.Ending.{IsPlayed}
+use Rattle.host_run.specs.Scene.{PlayedDisk, Scene, played_disk, site_of}
+
+-- the report is lawful for the image that the disk held
+abbrev pub IsLawfulOn : PlayedDisk → Report → Type 0
+IsLawfulOn disk report = IsTrue disk.tells → IsLawful disk.image report
+
+-- a crash of the disk leaves what the report's steps allow
+abbrev pub OutlivesCrash : PlayedDisk → Report → Type 0
+OutlivesCrash disk report = IsTrue disk.tells → (left : List (List ℕ)) → IsCrashOf disk.state left → IsCrashImage disk.image (changes_of report.steps.items) left
+
+-- in what a crash of the disk leaves has survived what was flushed
+pub record KeepsWhatWasFlushed (disk : PlayedDisk) (report : Report) : Type 0 where
+  pub kept : IsTrue disk.tells → (left : List (List ℕ)) → IsCrashOf disk.state left → KeepsFlushed disk.image report left
+
+-- **The headline of a run.**
+pub record Headline (scene : Scene) (report : Report) : Type 0 where
+  -- The script was played, by a server that was started with a session for each of the script's and was finished.
+  pub played : IsPlayed scene report
+  -- Its requests were answered as the rules say, whatever the disk: each session is lawful, and the steps are theirs.
+  pub answered : IsLawfulOnAnyDisk report
+  -- They were on the ranges of one layout on the disk's blocks.
+  pub laid_out : IsLaidOut report
+  -- The report is lawful for the image that was played on, where that disk tells.
+  pub lawful : IsLawfulOn (played_disk (site_of scene)) report
+  -- A crash of the disk that was played on leaves what the report's steps allow.
+  pub outlives : OutlivesCrash (played_disk (site_of scene)) report
+  -- In it has survived each write and trim that was answered before an acknowledged flush was sent.
+  pub keeps : KeepsWhatWasFlushed (played_disk (site_of scene)) report
