@@ -121,8 +121,8 @@ module _ (part : Range) (client number : ℕ) (whole : List MemEntry) (ts : List
   pin_owned : (h : ℕ) (what : MemEvent) → is_numbered client number (record { hand = h; what = what }) ≡ true → is_pin what ≡ true → (h == number) ≡ true
   pin_owned h (Pin index id by) n p = n
   pin_owned h (Attach id pages from) n p = absurd (cc)
-  pin_owned h (Fill id block amount byte) n p = absurd (cc)
-  pin_owned h (Show id block amount) n p = absurd (cc)
+  pin_owned h (Fill id block cnt byte) n p = absurd (cc)
+  pin_owned h (Show id block cnt) n p = absurd (cc)
   pin_owned h (Lift index j id block bytes) n p = absurd (cc)
   pin_owned h (Land index j id block bytes) n p = absurd (cc)
   pin_owned h (Done index id) n p = absurd (cc)

@@ -26,8 +26,8 @@ module _ (limits : MemoryLimits) (pool : TableId × ℕ) (l : WithRoom MemEntry)
   pub found_told : IsToldBy pool limits.size (events l.items) (suc i) x
   found_told = k.told.each i x found_at
 
-  pub found_blocks : (block amount : ℕ) → has_blocks id h block amount ≡ has_pages_at x.pages block amount
-  found_blocks block amount = ap (λ z. has_blocks id z block amount) (sym seen) ∙ (ap (λ v. has_blocks v (events l.items) block amount) (sym id_is) ∙ has_blocks_is pool limits.size (events l.items) (suc i) x found_told block amount)
+  pub found_blocks : (block cnt : ℕ) → has_blocks id h block cnt ≡ has_pages_at x.pages block cnt
+  found_blocks block cnt = ap (λ z. has_blocks id z block cnt) (sym seen) ∙ (ap (λ v. has_blocks v (events l.items) block cnt) (sym id_is) ∙ has_blocks_is pool limits.size (events l.items) (suc i) x found_told block cnt)
 
   pub found_standing : (j : ℕ) → standing_in id j h ≡ pages_standing x.pages x.closer x.from x.page_count j
   found_standing j = ap (λ z. standing_in id j z) (sym seen) ∙ (ap (λ v. standing_in v j (events l.items)) (sym id_is) ∙ standing_is pool limits.size (events l.items) (suc i) x found_told j)

@@ -65,10 +65,10 @@ module _ (limits : MemoryLimits) (pool : TableId × ℕ) (l : WithRoom MemEntry)
         (record { attachment = refl; closer = refl; release = refl; put = λ n. refl }) ((bytes_eq-Decides ws (page_at limits.size h (suc i) block)).1 is) (omega arith) (omega arith)
         (numbered_pushed limits.hands (limits.hands + 1) l.items (record { hand = hand; what = e }) k.numbered refl own)
 
-    pub kept_shown : (block amount : ℕ) → used_room (events l.items) + 1 ≤ limits.room
-        → IsKept limits pool (record l { items = l.items ++ record { hand = limits.hands; what = Show (suc i) block amount } ∷ [] }) moves left bs
-    kept_shown block amount room =
-        let h = events l.items in let e = Show (suc i) block amount in
+    pub kept_shown : (block cnt : ℕ) → used_room (events l.items) + 1 ≤ limits.room
+        → IsKept limits pool (record l { items = l.items ++ record { hand = limits.hands; what = Show (suc i) block cnt } ∷ [] }) moves left bs
+    kept_shown block cnt room =
+        let h = events l.items in let e = Show (suc i) block cnt in
         let attaches : count is_attach (h ++ e ∷ []) ≡ count is_attach h = count_skip is_attach h e refl in
         let uses : count is_fill_or_show (h ++ e ∷ []) ≡ count is_fill_or_show h + 1 = count_add is_fill_or_show h e refl in
         kept_read (record { hand = limits.hands; what = e }) moves (record { of = refl; attach = refl; pin = refl; pin_for = λ n. refl; done_for = λ n. refl })

@@ -20,9 +20,9 @@ held_step : (pool : TableId × ℕ) (n from : ℕ) (z : Bool) (a : Option Attach
 held_step pool n from true a o s e = sym (ap outline_count e)
 held_step pool n from false a o s e = ap (λ x. option_map_or (λ y. Some y.pages) x None) s ∙ sym (ap outline_count e)
 
-blocks_step : (p : Option SeenPages) (block amount : ℕ) → option_map_or (is_within block amount) (outline_count (outline p)) false ≡ has_pages_at p block amount
-blocks_step None block amount = refl
-blocks_step (Some p) block amount = refl
+blocks_step : (p : Option SeenPages) (block cnt : ℕ) → option_map_or (is_within block cnt) (outline_count (outline p)) false ≡ has_pages_at p block cnt
+blocks_step None block cnt = refl
+blocks_step (Some p) block cnt = refl
 
 listed_first : {A : Type 0} (o : Option A) → slice_get (listed o) 0 ≡ o
 listed_first None = refl
@@ -45,8 +45,8 @@ module _ (pool : TableId × ℕ) (size : ℕ) (h : List MemEvent) (v : ℕ) (b :
   pub pages_held_is : pages_held v h ≡ outline_count (outline b.pages)
   pages_held_is = held_step pool b.page_count b.from (is_released v h) (attachment_of v h) (outline b.pages) attachment_is t.held
 
-  pub has_blocks_is : (block amount : ℕ) → has_blocks v h block amount ≡ has_pages_at b.pages block amount
-  has_blocks_is block amount = ap (λ o. option_map_or (is_within block amount) o false) pages_held_is ∙ blocks_step b.pages block amount
+  pub has_blocks_is : (block cnt : ℕ) → has_blocks v h block cnt ≡ has_pages_at b.pages block cnt
+  has_blocks_is block cnt = ap (λ o. option_map_or (is_within block cnt) o false) pages_held_is ∙ blocks_step b.pages block cnt
 
   pub standing_is : (i : ℕ) → standing_in v i h ≡ pages_standing b.pages b.closer b.from b.page_count i
   standing_is i =

@@ -33,8 +33,8 @@ pub record LeavesAlone (size v : ℕ) (e : MemEvent) : Type 0 where
 
 pub leaves_alone : (size v : ℕ) (e : MemEvent) → (buffer_of e == v) ≡ false → LeavesAlone size v e
 leaves_alone size v (Attach id pages from) n = record { attachment = ap (λ b. then_some b (record { pages = pages; from = from })) n; closer = refl; release = refl; put = λ k. refl }
-leaves_alone size v (Fill id block amount byte) n = record { attachment = refl; closer = refl; release = refl; put = λ k. ap (λ b. then_some (b && nat_le block k && nat_lt k (block + amount)) (replicate size byte)) n }
-leaves_alone size v (Show id block amount) n = record { attachment = refl; closer = refl; release = refl; put = λ k. refl }
+leaves_alone size v (Fill id block cnt byte) n = record { attachment = refl; closer = refl; release = refl; put = λ k. ap (λ b. then_some (b && nat_le block k && nat_lt k (block + cnt)) (replicate size byte)) n }
+leaves_alone size v (Show id block cnt) n = record { attachment = refl; closer = refl; release = refl; put = λ k. refl }
 leaves_alone size v (Pin index id by) n = record { attachment = refl; closer = refl; release = refl; put = λ k. refl }
 leaves_alone size v (Lift index j id block bytes) n = record { attachment = refl; closer = refl; release = refl; put = λ k. refl }
 leaves_alone size v (Land index j id block bytes) n = record { attachment = refl; closer = refl; release = refl; put = λ k. ap (λ b. then_some (b && block == k) bytes) n }
@@ -69,29 +69,29 @@ module _ (pool : TableId × ℕ) (size : ℕ) (h : List MemEvent) (v : ℕ) (b :
     few = t.few;
   }
 
-  fill_step : (block amount byte k : ℕ) (t : Bool) → put_by size v k (Fill v block amount byte) ≡ then_some t (replicate size byte) → (old : List ℕ) → length old ≡ size → old ≡ page_at size h v k
-      → (if t then replicate (length old) byte else old) ≡ page_at size (h ++ Fill v block amount byte ∷ []) v k
-  fill_step block amount byte k true put old long is = ap (λ n. replicate n byte) long ∙ sym (page_put size h v k (Fill v block amount byte) (replicate size byte) put)
-  fill_step block amount byte k false put old long is = is ∙ sym (page_same size h v k (Fill v block amount byte) put)
+  fill_step : (block cnt byte k : ℕ) (t : Bool) → put_by size v k (Fill v block cnt byte) ≡ then_some t (replicate size byte) → (old : List ℕ) → length old ≡ size → old ≡ page_at size h v k
+      → (if t then replicate (length old) byte else old) ≡ page_at size (h ++ Fill v block cnt byte ∷ []) v k
+  fill_step block cnt byte k true put old long is = ap (λ n. replicate n byte) long ∙ sym (page_put size h v k (Fill v block cnt byte) (replicate size byte) put)
+  fill_step block cnt byte k false put old long is = is ∙ sym (page_same size h v k (Fill v block cnt byte) put)
 
   filled_long : (byte : ℕ) (t : Bool) (old : List ℕ) → length old ≡ size → length (if t then replicate (length old) byte else old) ≡ size
   filled_long byte true old long = length-replicate (length old) byte ∙ long
   filled_long byte false old long = long
 
   -- some blocks of the buffer were filled
-  pub told_filled : (block amount byte : ℕ) (q : Option SeenPages) → outline q ≡ outline b.pages → ((k : ℕ) → page_held q k ≡ page_filled block amount byte b.pages k)
-      → pins_on v (h ++ Fill v block amount byte ∷ []) ≡ pins_on v h → IsToldBy pool size h v b → IsToldBy pool size (h ++ Fill v block amount byte ∷ []) v (record b { pages = q })
-  told_filled block amount byte q o f p t = let e = Fill v block amount byte in
+  pub told_filled : (block cnt byte : ℕ) (q : Option SeenPages) → outline q ≡ outline b.pages → ((k : ℕ) → page_held q k ≡ page_filled block cnt byte b.pages k)
+      → pins_on v (h ++ Fill v block cnt byte ∷ []) ≡ pins_on v h → IsToldBy pool size h v b → IsToldBy pool size (h ++ Fill v block cnt byte ∷ []) v (record b { pages = q })
+  told_filled block cnt byte q o f p t = let e = Fill v block cnt byte in
       let n = same_length q b.pages o in
-      let put : (k : ℕ) → put_by size v k e ≡ then_some (is_among block amount k) (replicate size byte) = (λ k. ap (λ z. then_some (z && nat_le block k && nat_lt k (block + amount)) (replicate size byte)) (eq-eqb v v refl)) in
+      let put : (k : ℕ) → put_by size v k e ≡ then_some (is_among block cnt k) (replicate size byte) = (λ k. ap (λ z. then_some (z && nat_le block k && nat_lt k (block + cnt)) (replicate size byte)) (eq-eqb v v refl)) in
       record {
         attached = filter_map_skip (attachment_by v) h e refl ∙ t.attached;
         closed = filter_map_skip (closer_by v) h e refl ∙ t.closed;
         pinned = p ∙ t.pinned;
         held = o ∙ (t.held ∙ ap (λ z. if z then None else Some (pool, b.page_count)) (sym (any_skip (is_release_of v) h e refl)));
         unpinned = λ r. t.unpinned (sym (any_skip (is_release_of v) h e refl) ∙ r);
-        bytes = λ k lt. (let l : k < length (contents_held b.pages) = omega arith in f k ∙ fill_step block amount byte k (is_among block amount k) (put k) (page_held b.pages k) (t.long k l) (t.bytes k l));
-        long = λ k lt. (let l : k < length (contents_held b.pages) = omega arith in ap length (f k) ∙ filled_long byte (is_among block amount k) (page_held b.pages k) (t.long k l));
+        bytes = λ k lt. (let l : k < length (contents_held b.pages) = omega arith in f k ∙ fill_step block cnt byte k (is_among block cnt k) (put k) (page_held b.pages k) (t.long k l) (t.bytes k l));
+        long = λ k lt. (let l : k < length (contents_held b.pages) = omega arith in ap length (f k) ∙ filled_long byte (is_among block cnt k) (page_held b.pages k) (t.long k l));
         few = t.few;
       }
 

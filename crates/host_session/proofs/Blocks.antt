@@ -30,8 +30,8 @@ all_both test before (x ∷ xs) ys e f =
 
 others_find : (before : List MemEvent) (w : MemEvent) → is_client w ≡ false → finds_blocks before w ≡ true
 others_find before (Attach id pages from) e = refl
-others_find before (Fill id block amount byte) e = absurd (cc e)
-others_find before (Show id block amount) e = absurd (cc e)
+others_find before (Fill id block cnt byte) e = absurd (cc e)
+others_find before (Show id block cnt) e = absurd (cc e)
 others_find before (Pin index id by) e = refl
 others_find before (Lift index k id block bytes) e = refl
 others_find before (Land index k id block bytes) e = refl

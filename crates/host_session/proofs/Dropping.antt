@@ -88,8 +88,8 @@ module _ (h : List MemEvent) (v : ℕ) where
 
   left_still : (e : MemEvent) → is_left (h ++ Release v ∷ []) e ≡ is_left h e
   left_still (Attach id pages from) = refl
-  left_still (Fill id block amount byte) = refl
-  left_still (Show id block amount) = refl
+  left_still (Fill id block cnt byte) = refl
+  left_still (Show id block cnt) = refl
   left_still (Pin index id by) = ap not (list_any-append (is_done_for index) h (Release v ∷ []) ∙ or-false (list_any (is_done_for index) h))
   left_still (Lift index k id block bytes) = refl
   left_still (Land index k id block bytes) = refl

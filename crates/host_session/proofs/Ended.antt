@@ -108,10 +108,10 @@ not_both (Some Abort) d e = cc d
 drain_ends : (e : Event) → is_drain_event e ≡ true → is_end e ≡ true
 drain_ends (Attached pages id) d = absurd (cc d)
 drain_ends (NotAttached pages cause) d = absurd (cc d)
-drain_ends (Filled id block amount byte done) d = absurd (cc d)
+drain_ends (Filled id block cnt byte done) d = absurd (cc d)
 drain_ends (Sent index bytes) d = absurd (cc d)
 drain_ends (Received bytes) d = absurd (cc d)
-drain_ends (Shown id block amount done bytes) d = absurd (cc d)
+drain_ends (Shown id block cnt done bytes) d = absurd (cc d)
 drain_ends Drained d = refl
 drain_ends Aborted d = absurd (cc d)
 

@@ -54,8 +54,8 @@ counted_client p all (e ∷ h) = at (is_client e) (p e) (all e) refl (counted_cl
 
 attach_is : (e : MemEvent) → is_attach e ≡ true → is_client e ≡ true
 attach_is (Attach id pages from) p = refl
-attach_is (Fill id block amount byte) p = absurd (cc p)
-attach_is (Show id block amount) p = absurd (cc p)
+attach_is (Fill id block cnt byte) p = absurd (cc p)
+attach_is (Show id block cnt) p = absurd (cc p)
 attach_is (Pin index id by) p = absurd (cc p)
 attach_is (Lift index k id block bytes) p = absurd (cc p)
 attach_is (Land index k id block bytes) p = absurd (cc p)
@@ -65,8 +65,8 @@ attach_is (Release id) p = absurd (cc p)
 
 fill_is : (e : MemEvent) → is_fill_or_show e ≡ true → is_client e ≡ true
 fill_is (Attach id pages from) p = absurd (cc p)
-fill_is (Fill id block amount byte) p = refl
-fill_is (Show id block amount) p = refl
+fill_is (Fill id block cnt byte) p = refl
+fill_is (Show id block cnt) p = refl
 fill_is (Pin index id by) p = absurd (cc p)
 fill_is (Lift index k id block bytes) p = absurd (cc p)
 fill_is (Land index k id block bytes) p = absurd (cc p)
@@ -83,12 +83,12 @@ used_told : (before log : List Event) → IsUsed (map_after entry_after before l
 used_told before [] = record { attaches = refl; others = omega arith }
 used_told before (Attached pages id ∷ log) = let u = used_told (before ++ Attached pages id ∷ []) log in record { attaches = omega (arith, u.attaches); others = omega (arith, u.others) }
 used_told before (NotAttached pages cause ∷ log) = let u = used_told (before ++ NotAttached pages cause ∷ []) log in record { attaches = u.attaches; others = omega (arith, u.others) }
-used_told before (Filled id block amount byte true ∷ log) = let u = used_told (before ++ Filled id block amount byte true ∷ []) log in record { attaches = u.attaches; others = omega (arith, u.others) }
-used_told before (Filled id block amount byte false ∷ log) = let u = used_told (before ++ Filled id block amount byte false ∷ []) log in record { attaches = u.attaches; others = omega (arith, u.others) }
+used_told before (Filled id block cnt byte true ∷ log) = let u = used_told (before ++ Filled id block cnt byte true ∷ []) log in record { attaches = u.attaches; others = omega (arith, u.others) }
+used_told before (Filled id block cnt byte false ∷ log) = let u = used_told (before ++ Filled id block cnt byte false ∷ []) log in record { attaches = u.attaches; others = omega (arith, u.others) }
 used_told before (Sent index bytes ∷ log) = let u = used_told (before ++ Sent index bytes ∷ []) log in record { attaches = u.attaches; others = omega (arith, u.others) }
 used_told before (Received bytes ∷ log) = let u = used_told (before ++ Received bytes ∷ []) log in record { attaches = u.attaches; others = omega (arith, u.others) }
-used_told before (Shown id block amount true bytes ∷ log) = let u = used_told (before ++ Shown id block amount true bytes ∷ []) log in record { attaches = u.attaches; others = omega (arith, u.others) }
-used_told before (Shown id block amount false bytes ∷ log) = let u = used_told (before ++ Shown id block amount false bytes ∷ []) log in record { attaches = u.attaches; others = omega (arith, u.others) }
+used_told before (Shown id block cnt true bytes ∷ log) = let u = used_told (before ++ Shown id block cnt true bytes ∷ []) log in record { attaches = u.attaches; others = omega (arith, u.others) }
+used_told before (Shown id block cnt false bytes ∷ log) = let u = used_told (before ++ Shown id block cnt false bytes ∷ []) log in record { attaches = u.attaches; others = omega (arith, u.others) }
 used_told before (Drained ∷ log) = let u = used_told (before ++ Drained ∷ []) log in record { attaches = u.attaches; others = u.others }
 used_told before (Aborted ∷ log) = let u = used_told (before ++ Aborted ∷ []) log in record { attaches = u.attaches; others = u.others }
 

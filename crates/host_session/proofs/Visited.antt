@@ -45,73 +45,73 @@ module _ (a : Inside) (k : IsKept a) (mid : MemorySeat) (m : MemoryState) (same 
   quiet_given : (ev : Event) → given_id ev ≡ None → a.given ≡ length (given (a.log.items ++ ev ∷ []))
   quiet_given ev gives = k.counted.given ∙ sym (ap length (found_none given_id a.log.items ev gives))
 
-  pub filled_kept : (id block amount byte : ℕ) (done : Bool) (n : MemoryState) (q : MemorySeat) (l : WithRoom Event) (front : ℕ)
-      → done ≡ has_blocks id (history m) block amount
-      → (IsTrue done → n ≡ record m { entries = m.entries ++ record { hand = client_of m; what = Fill id block amount byte } ∷ [] })
+  pub filled_kept : (id block cnt byte : ℕ) (done : Bool) (n : MemoryState) (q : MemorySeat) (l : WithRoom Event) (front : ℕ)
+      → done ≡ has_blocks id (history m) block cnt
+      → (IsTrue done → n ≡ record m { entries = m.entries ++ record { hand = client_of m; what = Fill id block cnt byte } ∷ [] })
       → (done ≡ false → n ≡ m)
-      → front ≡ length n.entries → IsSameSeat mid q × IsOutside q → seen_by q ≡ n.entries → l ≡ record a.log { items = a.log.items ++ Filled id block amount byte done ∷ [] }
+      → front ≡ length n.entries → IsSameSeat mid q × IsOutside q → seen_by q ≡ n.entries → l ≡ record a.log { items = a.log.items ++ Filled id block cnt byte done ∷ [] }
       → IsKept (record a { log = l; fronts = record { device = a.fronts.device; memory = front }; memory_seat = q })
-  filled_kept id block amount byte true n q l front answer done not_done front_is out seen log_is =
-      let w : MemEvent = Fill id block amount byte in
-      let ev : Event = Filled id block amount byte true in
+  filled_kept id block cnt byte true n q l front answer done not_done front_is out seen log_is =
+      let w : MemEvent = Fill id block cnt byte in
+      let ev : Event = Filled id block cnt byte true in
       let v : IsVisit a.fronts.memory a.memory_seat q m.entries (entry_by a.hands w ∷ []) = visit a k mid m same story later fixed past numbers q (entry_by a.hands w ∷ []) out (left_with w n q (done refl) seen) in
       visit_kept a k q ev
       (kept_entry (client_state a) k.client q m.entries (numbered a k mid m same story later fixed past numbers) w ev v running room refl refl refl refl refl refl refl refl (quiet_ids ev refl) (quiet_few ev refl) refl (sym answer) (λ x p. p))
       v.seat.0.0 l front a.given log_is (front_is ∙ ap length (sym seen)) refl refl (quiet_given ev refl)
-  filled_kept id block amount byte false n q l front answer done not_done front_is out seen log_is =
-      let ev : Event = Filled id block amount byte false in
+  filled_kept id block cnt byte false n q l front answer done not_done front_is out seen log_is =
+      let ev : Event = Filled id block cnt byte false in
       let v : IsVisit a.fronts.memory a.memory_seat q m.entries [] = visit a k mid m same story later fixed past numbers q [] out (seen ∙ (ap (λ (x : MemoryState). x.entries) (not_done refl) ∙ sym (append-nil m.entries))) in
       visit_kept a k q ev
-      (kept_looked (client_state a) k.client q m.entries (numbered a k mid m same story later fixed past numbers) ev id block amount v running room (sym answer) refl refl refl refl refl refl refl refl refl (λ x p. p))
+      (kept_looked (client_state a) k.client q m.entries (numbered a k mid m same story later fixed past numbers) ev id block cnt v running room (sym answer) refl refl refl refl refl refl refl refl refl (λ x p. p))
       v.seat.0.0 l front a.given log_is (front_is ∙ ap length (sym seen)) refl refl (quiet_given ev refl)
 
-  pub shown_kept : (id block amount : ℕ) (bytes : List ℕ) (done : Bool) (n : MemoryState) (q : MemorySeat) (l : WithRoom Event) (front : ℕ)
-      → done ≡ has_blocks id (history m) block amount
-      → (IsTrue done → found_by (size_of m) (history m) (Show id block amount) ≡ Some bytes)
-      → (IsTrue done → n ≡ record m { entries = m.entries ++ record { hand = client_of m; what = Show id block amount } ∷ [] })
+  pub shown_kept : (id block cnt : ℕ) (bytes : List ℕ) (done : Bool) (n : MemoryState) (q : MemorySeat) (l : WithRoom Event) (front : ℕ)
+      → done ≡ has_blocks id (history m) block cnt
+      → (IsTrue done → found_by (size_of m) (history m) (Show id block cnt) ≡ Some bytes)
+      → (IsTrue done → n ≡ record m { entries = m.entries ++ record { hand = client_of m; what = Show id block cnt } ∷ [] })
       → (done ≡ false → n ≡ m)
-      → front ≡ length n.entries → IsSameSeat mid q × IsOutside q → seen_by q ≡ n.entries → l ≡ record a.log { items = a.log.items ++ Shown id block amount done bytes ∷ [] }
+      → front ≡ length n.entries → IsSameSeat mid q × IsOutside q → seen_by q ≡ n.entries → l ≡ record a.log { items = a.log.items ++ Shown id block cnt done bytes ∷ [] }
       → IsKept (record a { log = l; fronts = record { device = a.fronts.device; memory = front }; memory_seat = q })
-  shown_kept id block amount bytes true n q l front answer found done not_done front_is out seen log_is =
-      let w : MemEvent = Show id block amount in
-      let ev : Event = Shown id block amount true bytes in
+  shown_kept id block cnt bytes true n q l front answer found done not_done front_is out seen log_is =
+      let w : MemEvent = Show id block cnt in
+      let ev : Event = Shown id block cnt true bytes in
       let v : IsVisit a.fronts.memory a.memory_seat q m.entries (entry_by a.hands w ∷ []) = visit a k mid m same story later fixed past numbers q (entry_by a.hands w ∷ []) out (left_with w n q (done refl) seen) in
       let shown : Some bytes ≡ found_by a.spec.size (history m) w = sym (found refl) ∙ ap (λ (p : MemoryPlan). found_by p.limits.size (history m) w) (plan_is a k mid m same story later fixed past numbers) in
       visit_kept a k q ev
       (kept_entry (client_state a) k.client q m.entries (numbered a k mid m same story later fixed past numbers) w ev v running room refl refl refl refl refl refl refl refl (quiet_ids ev refl) (quiet_few ev refl) shown (sym answer) (λ x p. p))
       v.seat.0.0 l front a.given log_is (front_is ∙ ap length (sym seen)) refl refl (quiet_given ev refl)
-  shown_kept id block amount bytes false n q l front answer found done not_done front_is out seen log_is =
-      let ev : Event = Shown id block amount false bytes in
+  shown_kept id block cnt bytes false n q l front answer found done not_done front_is out seen log_is =
+      let ev : Event = Shown id block cnt false bytes in
       let v : IsVisit a.fronts.memory a.memory_seat q m.entries [] = visit a k mid m same story later fixed past numbers q [] out (seen ∙ (ap (λ (x : MemoryState). x.entries) (not_done refl) ∙ sym (append-nil m.entries))) in
       visit_kept a k q ev
-      (kept_looked (client_state a) k.client q m.entries (numbered a k mid m same story later fixed past numbers) ev id block amount v running room (sym answer) refl refl refl refl refl refl refl refl refl (λ x p. p))
+      (kept_looked (client_state a) k.client q m.entries (numbered a k mid m same story later fixed past numbers) ev id block cnt v running room (sym answer) refl refl refl refl refl refl refl refl refl (λ x p. p))
       v.seat.0.0 l front a.given log_is (front_is ∙ ap length (sym seen)) refl refl (quiet_given ev refl)
 
   -- what was tried, done or not
-  tried : (w : MemEvent) (id block amount : ℕ) (done : Bool) (n : MemoryState) (q : MemorySeat)
-      → done ≡ has_blocks id (history m) block amount
+  tried : (w : MemEvent) (id block cnt : ℕ) (done : Bool) (n : MemoryState) (q : MemorySeat)
+      → done ≡ has_blocks id (history m) block cnt
       → (IsTrue done → n ≡ record m { entries = m.entries ++ record { hand = client_of m; what = w } ∷ [] })
       → (done ≡ false → n ≡ m)
       → IsSameSeat mid q × IsOutside q → seen_by q ≡ n.entries → IsVisit a.fronts.memory a.memory_seat q m.entries (entry_where done a.hands w)
-  tried w id block amount true n q answer is is_not out seen = visit a k mid m same story later fixed past numbers q (entry_by a.hands w ∷ []) out (left_with w n q (is refl) seen)
-  tried w id block amount false n q answer is is_not out seen = visit a k mid m same story later fixed past numbers q [] out (seen ∙ (ap (λ (x : MemoryState). x.entries) (is_not refl) ∙ sym (append-nil m.entries)))
+  tried w id block cnt true n q answer is is_not out seen = visit a k mid m same story later fixed past numbers q (entry_by a.hands w ∷ []) out (left_with w n q (is refl) seen)
+  tried w id block cnt false n q answer is is_not out seen = visit a k mid m same story later fixed past numbers q [] out (seen ∙ (ap (λ (x : MemoryState). x.entries) (is_not refl) ∙ sym (append-nil m.entries)))
 
-  pub shown_answer : (id block amount : ℕ) (bytes : List ℕ) (done : Bool) (n : MemoryState) (q : MemorySeat) (l : WithRoom Event) (front : ℕ)
-      → done ≡ has_blocks id (history m) block amount
-      → (IsTrue done → found_by (size_of m) (history m) (Show id block amount) ≡ Some bytes)
+  pub shown_answer : (id block cnt : ℕ) (bytes : List ℕ) (done : Bool) (n : MemoryState) (q : MemorySeat) (l : WithRoom Event) (front : ℕ)
+      → done ≡ has_blocks id (history m) block cnt
+      → (IsTrue done → found_by (size_of m) (history m) (Show id block cnt) ≡ Some bytes)
       → (done ≡ false → bytes ≡ [])
-      → (IsTrue done → n ≡ record m { entries = m.entries ++ record { hand = client_of m; what = Show id block amount } ∷ [] })
+      → (IsTrue done → n ≡ record m { entries = m.entries ++ record { hand = client_of m; what = Show id block cnt } ∷ [] })
       → (done ≡ false → n ≡ m)
-      → front ≡ length n.entries → IsSameSeat mid q × IsOutside q → seen_by q ≡ n.entries → l ≡ record a.log { items = a.log.items ++ Shown id block amount done bytes ∷ [] }
-      → IsShown id block amount (client_state a) (client_state (record a { log = l; fronts = record { device = a.fronts.device; memory = front }; memory_seat = q })) done
-  shown_answer id block amount bytes done n q l front answer found none is is_not front_is out seen log_is =
-      let v : IsVisit a.fronts.memory a.memory_seat q m.entries (entry_where done a.hands (Show id block amount)) = tried (Show id block amount) id block amount done n q answer is is_not out seen in
+      → front ≡ length n.entries → IsSameSeat mid q × IsOutside q → seen_by q ≡ n.entries → l ≡ record a.log { items = a.log.items ++ Shown id block cnt done bytes ∷ [] }
+      → IsShown id block cnt (client_state a) (client_state (record a { log = l; fronts = record { device = a.fronts.device; memory = front }; memory_seat = q })) done
+  shown_answer id block cnt bytes done n q l front answer found none is is_not front_is out seen log_is =
+      let v : IsVisit a.fronts.memory a.memory_seat q m.entries (entry_where done a.hands (Show id block cnt)) = tried (Show id block cnt) id block cnt done n q answer is is_not out seen in
       record {
         tried = record { found = m.entries; visit = v; answer = answer };
         bytes = bytes;
-        found = λ t. ap (λ (p : MemoryPlan). found_by p.limits.size (history m) (Show id block amount)) (sym (plan_is a k mid m same story later fixed past numbers)) ∙ found t;
+        found = λ t. ap (λ (p : MemoryPlan). found_by p.limits.size (history m) (Show id block cnt)) (sym (plan_is a k mid m same story later fixed past numbers)) ∙ found t;
         none = none;
-        left = visit_left a q (Shown id block amount done bytes) v.seat.0.0 l front a.given log_is (front_is ∙ ap length (sym seen));
+        left = visit_left a q (Shown id block cnt done bytes) v.seat.0.0 l front a.given log_is (front_is ∙ ap length (sym seen));
       }
 
   pub attached_kept : (id pages : ℕ) (n : MemoryState) (q : MemorySeat) (l : WithRoom Event) (front : ℕ) → length (given a.log.items) < id_limit a.spec

@@ -44,8 +44,8 @@ nothing_more xs (y ∷ ys) e = absurd (omega (arith, ap length e, length-append 
 -- only a show finds something
 pub finds_none : (size : ℕ) (before : List MemEvent) (e : MemEvent) → is_client e ≡ false → found_by size before e ≡ None
 finds_none size before (Attach id pages from) n = refl
-finds_none size before (Fill id block amount byte) n = refl
-finds_none size before (Show id block amount) n = absurd (cc n)
+finds_none size before (Fill id block cnt byte) n = refl
+finds_none size before (Show id block cnt) n = absurd (cc n)
 finds_none size before (Pin index id by) n = refl
 finds_none size before (Lift index k id block bytes) n = refl
 finds_none size before (Land index k id block bytes) n = refl
@@ -58,8 +58,8 @@ by_client e is = ap (λ b. b || is_release e) is
 
 no_release : (e : MemEvent) → is_client e ≡ true → is_release e ≡ false
 no_release (Attach id pages from) n = refl
-no_release (Fill id block amount byte) n = refl
-no_release (Show id block amount) n = refl
+no_release (Fill id block cnt byte) n = refl
+no_release (Show id block cnt) n = refl
 no_release (Pin index id by) n = absurd (cc n)
 no_release (Lift index k id block bytes) n = absurd (cc n)
 no_release (Land index k id block bytes) n = absurd (cc n)
@@ -182,12 +182,12 @@ module _ (s : ClientState) (k : IsClient s) (q : MemorySeat) (found : List MemEn
 
   -- ---- without one
 
-  pub kept_looked : (ev : Event) (id block amount : ℕ) → IsVisit s.fronts.memory s.memory_seat q found [] → s.finish ≡ None → 1 ≤ room_left s
-      → has_blocks id (events found) block amount ≡ false
+  pub kept_looked : (ev : Event) (id block cnt : ℕ) → IsVisit s.fronts.memory s.memory_seat q found [] → s.finish ≡ None → 1 ≤ room_left s
+      → has_blocks id (events found) block cnt ≡ false
       → entry_after s.log ev ≡ None → has_entry ev ≡ false → is_end ev ≡ false → sent_bytes ev ≡ None → sent_index ev ≡ None → received_bytes ev ≡ None → given_id ev ≡ None → shown_bytes ev ≡ None → runs_out_rightly s.log ev ≡ true
-      → ((a : Act) → FoundNone found (fronts_after k.acts) a id block amount → IsEventAfter found k.acts a ev)
+      → ((a : Act) → FoundNone found (fronts_after k.acts) a id block cnt → IsEventAfter found k.acts a ev)
       → IsClient (with_event (with_visit s q) ev)
-  kept_looked ev id block amount v running room missing entry has inner sends sends' receives gives shows rightly is =
+  kept_looked ev id block cnt v running room missing entry has inner sends sends' receives gives shows rightly is =
       let a : Act = record { event = ev; envelope = None; slip = None; fronts = record { device = s.fronts.device; memory = length (seen_by q) } } in
       let left : seen_by q ≡ found = v.left ∙ append-nil found in
       let rest : List MemEntry = v.later.0.0 in
@@ -222,7 +222,7 @@ module _ (s : ClientState) (k : IsClient s) (q : MemorySeat) (found : List MemEn
             (is a (record {
               plain = record { envelope = refl; slip = refl; fronts = record { device = k.course.fronts.device; memory = omega (arith, k.course.fronts.memory, v.past, n) } };
               within = omega (arith, n);
-              none = ap (λ l. has_blocks id (events l) block amount) still ∙ missing;
+              none = ap (λ l. has_blocks id (events l) block cnt) still ∙ missing;
             })));
         late = none_late s.plan.hands (seen_by s.intake_seat) (seen_by q) (k.acts ++ a ∷ []) (ap (λ l. list_any is_release (events (entries_of (λ x. x.hand) s.plan.hands l))) left ∙ none);
       }

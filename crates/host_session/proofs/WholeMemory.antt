@@ -27,8 +27,8 @@ none_after xs (y ∷ ys) e = absurd (omega (arith, ap length e, length-append xs
 no_attach : (rest : List MemEvent) → filter is_client rest ≡ [] → filter is_attach rest ≡ []
 no_attach [] none = refl
 no_attach (Attach id pages from ∷ rest) none = absurd (cc none)
-no_attach (Fill id block amount byte ∷ rest) none = absurd (cc none)
-no_attach (Show id block amount ∷ rest) none = absurd (cc none)
+no_attach (Fill id block cnt byte ∷ rest) none = absurd (cc none)
+no_attach (Show id block cnt ∷ rest) none = absurd (cc none)
 no_attach (Pin index id by ∷ rest) none = no_attach rest none
 no_attach (Lift index k id block bytes ∷ rest) none = no_attach rest none
 no_attach (Land index k id block bytes ∷ rest) none = no_attach rest none
@@ -39,8 +39,8 @@ no_attach (Release id ∷ rest) none = no_attach rest none
 no_attachment : (v : ℕ) (rest : List MemEvent) → filter is_client rest ≡ [] → filter_map (attachment_by v) rest ≡ []
 no_attachment v [] none = refl
 no_attachment v (Attach id pages from ∷ rest) none = absurd (cc none)
-no_attachment v (Fill id block amount byte ∷ rest) none = absurd (cc none)
-no_attachment v (Show id block amount ∷ rest) none = absurd (cc none)
+no_attachment v (Fill id block cnt byte ∷ rest) none = absurd (cc none)
+no_attachment v (Show id block cnt ∷ rest) none = absurd (cc none)
 no_attachment v (Pin index id by ∷ rest) none = no_attachment v rest none
 no_attachment v (Lift index k id block bytes ∷ rest) none = no_attachment v rest none
 no_attachment v (Land index k id block bytes ∷ rest) none = no_attachment v rest none

@@ -32,10 +32,10 @@ last_push (e ∷ f ∷ xs) x = last_push (f ∷ xs) x
 not_abort : (e : Event) → is_end e ≡ false → is_abort e ≡ false
 not_abort (Attached pages id) is = refl
 not_abort (NotAttached pages cause) is = refl
-not_abort (Filled id block amount byte done) is = refl
+not_abort (Filled id block cnt byte done) is = refl
 not_abort (Sent index bytes) is = refl
 not_abort (Received bytes) is = refl
-not_abort (Shown id block amount done bytes) is = refl
+not_abort (Shown id block cnt done bytes) is = refl
 not_abort Drained is = refl
 not_abort Aborted is = absurd (cc is)
 
