@@ -133,10 +133,12 @@ fn one_session_waits_for_another(rt: HostRuntime) -> Result<(), Fail> {
         lines: &["steps 3\n"],
         ..EMPTY
     };
-    let gate = Held::new((1, 0), (2, 0));
-    let left = run_judged(&rt, rt.alloc(), &case, 2, &gate).ok_or("memory")?;
-    assert!(rt; left.is_right(), "{:?}", left.found);
-    assert!(rt; gate.was_opened());
+    for workers in WORKERS {
+        let gate = Held::new((1, 0), (2, 0));
+        let left = run_judged(&rt, rt.alloc(), &case, workers, &gate).ok_or("memory")?;
+        assert!(rt; left.is_right(), "{workers} workers: {:?}", left.found);
+        assert!(rt; gate.was_opened(), "{workers} workers");
+    }
     Ok(())
 }
 
@@ -148,10 +150,12 @@ fn one_record_waits_for_another(rt: HostRuntime) -> Result<(), Fail> {
         lines: &["steps 3\n"],
         ..EMPTY
     };
-    let gate = Held::new((1, 0), (1, 1));
-    let left = run_judged(&rt, rt.alloc(), &case, 2, &gate).ok_or("memory")?;
-    assert!(rt; left.is_right(), "{:?}", left.found);
-    assert!(rt; gate.was_opened());
+    for workers in WORKERS {
+        let gate = Held::new((1, 0), (1, 1));
+        let left = run_judged(&rt, rt.alloc(), &case, workers, &gate).ok_or("memory")?;
+        assert!(rt; left.is_right(), "{workers} workers: {:?}", left.found);
+        assert!(rt; gate.was_opened(), "{workers} workers");
+    }
     Ok(())
 }
 

@@ -73,7 +73,16 @@ fn each_call_of_the_disk_fails(rt: HostRuntime) -> Result<(), Fail> {
     for kind in [CallKind::Read, CallKind::Write, CallKind::Sync] {
         let mut is_past = false;
         for nr in 1..MOST {
-            let (workers, part) = if nr % 2 == 0 { (4, 0) } else { (1, 1) };
+            let (workers, part) = match nr % 8 {
+                0 => (1, 0),
+                1 => (1, 1),
+                2 => (2, 0),
+                3 => (2, 1),
+                4 => (4, 0),
+                5 => (4, 1),
+                6 => (8, 0),
+                _ => (8, 1),
+            };
             let left = run_failing(&rt, rt.alloc(), FailAt { kind, nr, part }, workers).ok_or(
                 "memory",
             )?;

@@ -6,7 +6,9 @@ use host_model::Event;
 use host_play::Setting;
 use host_session::AttachError;
 use std::alloc::{AllocError, Global};
+use std::sync::Wait;
 use std::test::Fail;
+use std::thread::Threads;
 
 // For each id a buffer of one page is attached and closed, so that no more than a thousand stand. Then comes one attach more.
 fn text(alloc: Global, ids: u16) -> Result<Vec<u8>, AllocError> {
@@ -22,38 +24,50 @@ fn text(alloc: Global, ids: u16) -> Result<Vec<u8>, AllocError> {
     Ok(text)
 }
 
-#[test]
-fn ids_are_used_up(rt: HostRuntime) -> Result<(), Fail> {
-    let alloc = rt.alloc();
-    let image = image_of(alloc, Image::Base).ok_or("memory")?;
+// Whether each id was given once, the attach after them was refused, and all pages are home.
+fn uses_up<R: Threads + Wait + Sync>(rt: &R, alloc: Global, workers: u32) -> Option<bool> {
+    if workers == 0 || workers > 16 {
+        return None;
+    }
+    let image = image_of(alloc, Image::Base)?;
+    let text = text(alloc, 65_535).ok()?;
     let setting = Setting {
-        workers: 1,
+        workers,
         depth: 128,
         cut: false,
     };
+    let fails = Vec::new(alloc);
     let run = run_text(
-        &rt,
+        rt,
         alloc,
         image.as_slice(),
-        &text(alloc, 65_535)?,
-        Vec::new(alloc),
+        &text,
+        fails,
         setting,
         &OpenGate,
-    )
-    .ok_or("run")?;
-    let session = run.report.sessions.get(0).ok_or("session")?;
-    assert_eq!(rt; session.log.len(), 3 * 65_535 + 2);
-    assert_eq!(rt; session.taken.len(), 65_535);
-    let last = session.log.get(3 * 65_535).ok_or("event")?;
-    assert!(rt;
-        matches!(
-            last,
-            Event::NotAttached {
-                pages: 1,
-                cause: AttachError::NoIds
-            }
-        )
+    )?;
+    let session = run.report.sessions.get(0)?;
+    let last = session.log.get(3 * 65_535)?;
+    let is_refused = matches!(
+        last,
+        Event::NotAttached {
+            pages: 1,
+            cause: AttachError::NoIds
+        }
     );
-    assert_eq!(rt; run.report.frames_home, 4096);
+    let (events, records) = (session.log.len(), session.taken.len());
+    let home = run.report.frames_home;
+    Some(is_refused && events == 3 * 65_535 + 2 && records == 65_535 && home == 4096)
+}
+
+#[test]
+fn ids_are_used_up(rt: HostRuntime) -> Result<(), Fail> {
+    assert!(rt; uses_up(&rt, rt.alloc(), 1).ok_or("run")?);
+    Ok(())
+}
+
+#[test]
+fn ids_are_used_up_with_eight_workers(rt: HostRuntime) -> Result<(), Fail> {
+    assert!(rt; uses_up(&rt, rt.alloc(), 8).ok_or("run")?);
     Ok(())
 }
