@@ -1,5 +1,5 @@
 -- How faulted steps show in the count of the disk, and in the status.
-use Rattle.std.proofs.Common.{◌≡◌, ◌⊎◌, inl, inr, ℕ, ◌+◌, ◌≤◌, zero, suc, Bool, true, false, cond, List, [], ◌∷◌, ◌++◌, Some, refl, ◌∙◌, ap, arith}
+use Rattle.std.proofs.Common.{◌≡◌, inl, inr, ℕ, ◌+◌, ◌≤◌, zero, suc, Bool, true, false, cond, List, [], ◌∷◌, ◌++◌, Some, refl, ◌∙◌, ap, arith}
 use Rattle.std.proofs.lemmas.List.Sums.{sum_by-append}
 use Rattle.host_device.specs.Faults.{RoseBy, faulted_count}
 use Rattle.host_io.specs.Causes.{Rose}
@@ -10,10 +10,10 @@ use Rattle.host_report.specs.declared.closing.Closing.TheVariants.{Good, Fault, 
 use Rattle.host_report.specs.declared.report.Report.{Report}
 use Rattle.host_run.specs.Ending.{IsComplete, IsDone}
 use Rattle.host_run.specs.Scene.{Scene}
-use Rattle.host_run.specs.Seen.{SinkFailed}
+use Rattle.host_run.specs.Seen.{SinkFaulted}
 use Rattle.host_run.specs.Statuses.{HasRunReport, played_status}
 use Rattle.host_run.specs.declared.status.RunStatus.{RunStatus}
-use Rattle.host_run.specs.declared.status.RunStatus.TheVariants.{Done, SinkFault, OutOfMemory}
+use Rattle.host_run.specs.declared.status.RunStatus.TheVariants.{SinkFault}
 use Rattle.host_worker.specs.Ends.{EndsState}
 use Rattle.host_worker.specs.Gathered.{IsGathered}
 
@@ -58,7 +58,7 @@ done Fault was_written status is good written = absurd (good refl)
 done NoMemory was_written status is good written = inr is
 
 pub complete : (scene : Scene) (ends : EndsState) (report : Report) (status : RunStatus) → IsGathered ends report → RoseBy (faulted_count report.steps.items) scene.disk.counts.faults scene.new_disk.counts.faults → HasRunReport status (Some report)
-    → (status ≡ SinkFault → SinkFailed scene.sink scene.new_sink)
+    → (status ≡ SinkFault → SinkFaulted scene.sink scene.new_sink)
     → IsComplete scene status report
 complete scene ends report status gathered rose ended sink_fault =
     let before = scene.disk.counts.faults in

@@ -1,13 +1,13 @@
 -- What a run leaves, from what its stages left.
-use Rattle.std.proofs.Common.{◌≡◌, ◌⊎◌, inl, ◌∙◌, ap, refl, subst, sym, ℕ, Option, Some, None, List, arith}
-use Rattle.std.specs.Prelude.{IfNone, IfSome, IsTrue}
+use Rattle.std.proofs.Common.{◌≡◌, ◌⊎◌, inl, refl, subst, sym, ℕ, Option, Some, None, List, arith}
+use Rattle.std.specs.Prelude.{IfSome}
 use Rattle.host_report.specs.declared.report.Report.{Report}
 use Rattle.host_run.specs.Ending.{IsItsScript, IsNoScript, IsNoStart, SaysNoScript}
 use Rattle.host_run.specs.Played.{IsPlayOf, LeavesUnplayed}
 use Rattle.host_run.specs.Refusals.{start_status}
 use Rattle.host_run.specs.Runs.{IsRunOn, RunLeaves}
 use Rattle.host_run.specs.Scene.{Scene, site_of}
-use Rattle.host_run.specs.Seen.{DiskFailed, DiskSeen, SinkFailed, SourceFailed, SourceSeen, WasRead}
+use Rattle.host_run.specs.Seen.{DiskFaulted, DiskSeen, SinkFaulted, SourceFaulted, SourceSeen, WasRead}
 use Rattle.host_run.specs.Statuses.{HasRunReport}
 use Rattle.host_run.specs.Words.{Making, Playing, text_of}
 use Rattle.host_run.specs.Writes.{TellsRun}
@@ -21,7 +21,7 @@ use Rattle.host_run.proofs.Playable.{refused_playable}
 
 -- a script that was played and told
 pub played_leaves : (scene : Scene) (plans : List SessionPlan) (report : Report) (status : RunStatus) → IsItsScript scene plans → IsPlayOf plans scene.playing.workers scene.playing.depth report → IsRunOn (site_of scene) scene.playing.cut report
-    → HasRunReport status (Some report) → (status ≡ SinkFault → SinkFailed scene.sink scene.new_sink) → TellsRun scene.sink scene.new_sink (text_of scene.playing.told report) status
+    → HasRunReport status (Some report) → (status ≡ SinkFault → SinkFaulted scene.sink scene.new_sink) → TellsRun scene.sink scene.new_sink (text_of scene.playing.told report) status
     → RunLeaves scene status (Some report)
 played_leaves scene plans report status script played ran ended sink_fault told =
     let whole = complete scene played.gathered.ends report status played.gathered.gathered ran.left.faults ended sink_fault in
@@ -42,7 +42,7 @@ played_leaves scene plans report status script played ran ended sink_fault told 
     }
 
 -- a run that was refused
-pub refused_leaves : (scene : Scene) (status : RunStatus) (e : StartError) → status ≡ start_status e → IsNoScript scene e ⊎ IsNoStart scene e → (e ≡ error.Source → SourceFailed scene.source scene.new_source) → (e ≡ error.Disk → DiskFailed scene.disk scene.new_disk)
+pub refused_leaves : (scene : Scene) (status : RunStatus) (e : StartError) → status ≡ start_status e → IsNoScript scene e ⊎ IsNoStart scene e → (e ≡ error.Source → SourceFaulted scene.source scene.new_source) → (e ≡ error.Disk → DiskFaulted scene.disk scene.new_disk)
     → LeavesUnplayed (site_of scene)
     → RunLeaves scene status None
 refused_leaves scene status e is why source_fault disk_fault left = record {
@@ -64,18 +64,6 @@ untouched before after same = subst (λ (d : DiskSeen). WasRead before d) (sym s
   still = λ never. never;
   no_fault = λ never. refl;
 })
-
--- ---- the disk that was handed in
-
--- a run on a copy only reads it
-pub copy_reads : {scene : Scene} {s : RunStatus} {report : Option Report} → RunLeaves scene s report → IsTrue scene.playing.dry → WasRead scene.disk scene.new_disk
-copy_reads {report = Some report} leaves dry = leaves.disks.reads dry
-copy_reads {report = None} leaves dry = leaves.disks.reads
-
--- a refused run only reads it
-pub refusal_reads : {scene : Scene} {s : RunStatus} {report : Option Report} → RunLeaves scene s report → IfNone report (WasRead scene.disk scene.new_disk)
-refusal_reads {report = Some report} leaves = tt
-refusal_reads {report = None} leaves = leaves.disks.reads
 
 -- ---- a call without memory for its words, as a run
 

@@ -16,8 +16,8 @@ use Rattle.script_model.specs.Script.{script_of}
 use Rattle.script_model.specs.declared.parse_error.ParseError.TheVariants.{Bad}
 use Rattle.host_run.specs.Ending.{IsDone, IsNoScript, IsNoStart, IsPlayable, IsScriptOf, SaysNoScript, StandsThere}
 use Rattle.host_run.specs.Refusals.{start_status}
-use Rattle.host_run.specs.Scene.{NoneFailed, Scene, image_at, site_of}
-use Rattle.host_run.specs.Seen.{DiskFailed, SourceFailed, SourceSeen}
+use Rattle.host_run.specs.Scene.{NoneFaulted, Scene, image_at, site_of}
+use Rattle.host_run.specs.Seen.{DiskFaulted, SourceFaulted, SourceSeen}
 use Rattle.host_run.specs.Words.{Making}
 use Rattle.host_run.specs.declared.status.RunStatus.{RunStatus}
 
@@ -122,8 +122,8 @@ why scene e playable (inl because) =
     elim (no_script scene.playing.size scene.playing.making scene.source scene.new_source playable.plans e playable.script because.cause because.says) [ inl source ↦ inl source | inr memory ↦ inr (inr memory) ]
 why scene e playable (inr because) = inr (no_start scene e because.cause playable because)
 
-pub refused_playable : (scene : Scene) (status : RunStatus) (e : StartError) → status ≡ start_status e → IsNoScript scene e ⊎ IsNoStart scene e → (e ≡ error.Source → SourceFailed scene.source scene.new_source) → (e ≡ error.Disk → DiskFailed scene.disk scene.new_disk)
-    → IsPlayable scene → NoneFailed scene → IsDone status
+pub refused_playable : (scene : Scene) (status : RunStatus) (e : StartError) → status ≡ start_status e → IsNoScript scene e ⊎ IsNoStart scene e → (e ≡ error.Source → SourceFaulted scene.source scene.new_source) → (e ≡ error.Disk → DiskFaulted scene.disk scene.new_disk)
+    → IsPlayable scene → NoneFaulted scene → IsDone status
 refused_playable scene status e is because source_fault disk_fault playable none =
     elim (why scene e playable because) [
       | inl source ↦ absurd (none.source (source_fault source))

@@ -6,7 +6,7 @@ use Rattle.host_report.specs.declared.report.Report.{Report}
 use Rattle.host_run.specs.Played.{HasNoFaults, IsPlayOf}
 use Rattle.host_run.specs.Refusals.{start_status}
 use Rattle.host_run.specs.Scene.{Scene, image_at, site_of}
-use Rattle.host_run.specs.Seen.{DiskFailed, SinkFailed, SourceSeen}
+use Rattle.host_run.specs.Seen.{DiskFaulted, SinkFaulted, SourceSeen}
 use Rattle.host_run.specs.Words.{Making, plans_made}
 use Rattle.host_run.specs.declared.status.RunStatus.{RunStatus}
 use Rattle.host_run.specs.declared.status.RunStatus.TheVariants.{Done, OutOfMemory}
@@ -84,5 +84,5 @@ IsDone status = (status ≡ Done) ⊎ (status ≡ OutOfMemory)
 -- Where the disk didn't fail no step is faulted, and where the sink didn't either the run is done, or there was no memory for
 -- its closing flush.
 pub record IsComplete (scene : Scene) (status : RunStatus) (report : Report) : Type 0 where
-  pub no_faults : ¬ DiskFailed scene.disk scene.new_disk → HasNoFaults report
-  pub done : ¬ DiskFailed scene.disk scene.new_disk → ¬ SinkFailed scene.sink scene.new_sink → IsDone status
+  pub no_faults : ¬ DiskFaulted scene.disk scene.new_disk → HasNoFaults report
+  pub done : ¬ DiskFaulted scene.disk scene.new_disk → ¬ SinkFaulted scene.sink scene.new_sink → IsDone status

@@ -7,7 +7,7 @@ use Rattle.host_play.specs.Plays.{IsReportOf}
 use Rattle.host_report.specs.declared.closing.Closing.TheVariants.{Cut as WasCut}
 use Rattle.host_report.specs.declared.report.Report.{Report}
 use Rattle.host_run.specs.Scene.{Site, image_at, opening_image}
-use Rattle.host_run.specs.Seen.{DiskFailed, WasRead}
+use Rattle.host_run.specs.Seen.{DiskFaulted, WasRead}
 use Rattle.host_start.specs.Images.{SaysOfImage, parts_of}
 use Rattle.host_start.specs.Refusals.{IsAfterScript, IsOfContent}
 use Rattle.host_start.specs.declared.error.StartError.{StartError}
@@ -71,7 +71,7 @@ HandsCopy false copy error = copy ≡ None
 -- What is left there where these plans weren't played, and why.
 pub record IsNoRun (site : Site) (plans : List SessionPlan) (error : StartError) : Type 0 where
   pub cause : IsAfterScript error
-  pub fault : error ≡ DiskFails → DiskFailed site.disk site.new_disk
+  pub fault : error ≡ DiskFails → DiskFaulted site.disk site.new_disk
   pub says : IsTrue site.disk.shape.tells → SaysOfImage (image_at site) (parts_of plans) error
   pub copy_is : HandsCopy site.on_copy site.copy error
   pub left : LeavesUnplayed site

@@ -6,7 +6,7 @@ use Rattle.report_law.specs.Runs.{IsLawfulOnAnyDisk}
 use Rattle.host_run.specs.Ending.{IsComplete, IsDone, IsPlayable, IsRefused}
 use Rattle.host_run.specs.Headline.{Headline, IsLawfulOn, KeepsWhatWasFlushed, OutlivesCrash}
 use Rattle.host_run.specs.Played.{LeavesDisks, LeavesPlayed}
-use Rattle.host_run.specs.Scene.{NoneFailed, Scene, Site, played_disk, site_of}
+use Rattle.host_run.specs.Scene.{NoneFaulted, Scene, Site, played_disk, site_of}
 use Rattle.host_run.specs.Words.{text_of}
 use Rattle.host_run.specs.Writes.{TellsRun}
 use Rattle.host_run.specs.declared.status.RunStatus.{RunStatus}
@@ -27,7 +27,7 @@ pub record RunLeaves (scene : Scene) (status : RunStatus) (report : Option Repor
   -- Without one, the status is that of a refusal, which says its cause.
   pub refused : IfNone report (IsRefused scene status)
   -- What can be played is played, where none of source, disk and sink failed and there was memory.
-  pub playable : IsPlayable scene → NoneFailed scene → IsDone status
+  pub playable : IsPlayable scene → NoneFaulted scene → IsDone status
   -- Where the disk didn't fail no step is faulted, and where the sink didn't either the run is done, or there was no memory.
   pub complete : IfSome report (IsComplete scene status)
   -- What is left of the disk that was handed in, and of the copy.

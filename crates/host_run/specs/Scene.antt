@@ -4,7 +4,7 @@ use Rattle.host_block.specs.Disk.{DiskState}
 use Rattle.host_io.specs.Flat.{image_of}
 use Rattle.host_io.specs.MemDisk.{opening_of, state_of}
 use Rattle.host_io.specs.declared.mem_disk.MemDisk.{MemDisk}
-use Rattle.host_run.specs.Seen.{DiskFailed, DiskSeen, SinkFailed, SinkSeen, SourceFailed, SourceSeen}
+use Rattle.host_run.specs.Seen.{DiskFaulted, DiskSeen, SinkFaulted, SinkSeen, SourceFaulted, SourceSeen}
 use Rattle.host_run.specs.Words.{Playing}
 
 -- What the words ask for; source, disk and sink as they were and as they are left; and the copy that is handed out.
@@ -19,10 +19,10 @@ pub record Scene : Type 0 where
   pub copy : Option MemDisk
 
 -- neither source nor disk nor sink failed
-pub record NoneFailed (scene : Scene) : Type 0 where
-  pub source : ¬ SourceFailed scene.source scene.new_source
-  pub disk : ¬ DiskFailed scene.disk scene.new_disk
-  pub sink : ¬ SinkFailed scene.sink scene.new_sink
+pub record NoneFaulted (scene : Scene) : Type 0 where
+  pub source : ¬ SourceFaulted scene.source scene.new_source
+  pub disk : ¬ DiskFaulted scene.disk scene.new_disk
+  pub sink : ¬ SinkFaulted scene.sink scene.new_sink
 
 -- ---- the disks
 

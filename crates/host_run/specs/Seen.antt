@@ -23,8 +23,8 @@ abbrev pub disk_seen : {D : Type 0} → disk.Ghosts D → D → DiskSeen
 disk_seen g d = record { shape = g.shape d; image_named = g.image_named d; state = g.state d; counts = g.counts d; never_fails = g.never_fails d }
 
 -- its count of faults rose
-abbrev pub DiskFailed : DiskSeen → DiskSeen → Type 0
-DiskFailed before after = Rose before.counts.faults after.counts.faults
+abbrev pub DiskFaulted : DiskSeen → DiskSeen → Type 0
+DiskFaulted before after = Rose before.counts.faults after.counts.faults
 
 -- it was only read
 abbrev pub WasRead : DiskSeen → DiskSeen → Type 0
@@ -42,8 +42,8 @@ abbrev pub source_seen : {S : Type 0} → source.Ghosts S → S → SourceSeen
 source_seen g s = record { tells = g.tells s; left = g.left s; faults = g.faults s }
 
 -- its count of faults rose
-abbrev pub SourceFailed : SourceSeen → SourceSeen → Type 0
-SourceFailed before after = Rose before.faults after.faults
+abbrev pub SourceFaulted : SourceSeen → SourceSeen → Type 0
+SourceFaulted before after = Rose before.faults after.faults
 
 -- ---- a sink
 
@@ -57,5 +57,5 @@ abbrev pub sink_seen : {K : Type 0} → sink.Ghosts K → K → SinkSeen
 sink_seen g k = record { tells = g.tells k; appended = g.appended k; faults = g.faults k }
 
 -- its count of faults rose
-abbrev pub SinkFailed : SinkSeen → SinkSeen → Type 0
-SinkFailed before after = Rose before.faults after.faults
+abbrev pub SinkFaulted : SinkSeen → SinkSeen → Type 0
+SinkFaulted before after = Rose before.faults after.faults

@@ -1,10 +1,9 @@
 //! `list`: the text of an image's partition table.
 ghost use Rattle.std.specs.Prelude.{◌≡◌, None};
-ghost use Rattle.host_io.specs.Causes.{Rose};
 ghost use Rattle.host_io.specs.Disks.{OpensNone};
 ghost use Rattle.host_run.specs.Listed.{ListLeaves};
 ghost use Rattle.host_run.specs.Refusals.{refusal_line, start_status};
-ghost use Rattle.host_run.specs.Seen.{WasRead, disk_seen, sink_seen};
+ghost use Rattle.host_run.specs.Seen.{DiskFaulted, SinkFaulted, WasRead, disk_seen, sink_seen};
 ghost use Rattle.host_run.specs.Writes.{PutsText};
 ghost use Rattle.host_start.specs.declared.error.StartError.TheVariants.{TooLarge};
 ghost use Rattle.host_run.specs.declared.status.RunStatus.TheVariants.{DiskFault, SinkFault};
@@ -27,8 +26,8 @@ pub fn list<D: Disk, K: Sink>(
     disk: D,
     out: &mut K,
 ) -> Outcome<D>
-    ensures disk_fault { result.status ≡ DiskFault → Rose (D.counts disk).faults (D.counts result.disk).faults }
-    ensures sink_fault { result.status ≡ SinkFault → Rose (K.faults out.old) (K.faults out.new) }
+    ensures disk_fault { result.status ≡ DiskFault → DiskFaulted (disk_seen D.Disk disk) (disk_seen D.Disk result.disk) }
+    ensures sink_fault { result.status ≡ SinkFault → SinkFaulted (sink_seen K.Sink out.old) (sink_seen K.Sink out.new) }
     ensures only_reads { WasRead (disk_seen D.Disk disk) (disk_seen D.Disk result.disk) }
     ensures opens_none { OpensNone (D.shape disk) (D.shape result.disk) }
     ensures no_dry { result.dry ≡ None }

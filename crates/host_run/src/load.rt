@@ -1,11 +1,10 @@
 //! `load`: a script is generated and played on a copy of an image.
 ghost use Rattle.std.specs.Prelude.{◌≡◌, ◌≢◌, Some, IfNone, IsTrue};
-ghost use Rattle.host_io.specs.Causes.{Rose};
 ghost use Rattle.host_io.specs.Disks.{OpensNone};
 ghost use Rattle.host_play.specs.Stages.{IsSetting};
 ghost use Rattle.host_run.specs.Refusals.{refusal_line};
 ghost use Rattle.host_run.specs.Runs.{RunLeaves};
-ghost use Rattle.host_run.specs.Seen.{SourceSeen, disk_seen, sink_seen};
+ghost use Rattle.host_run.specs.Seen.{DiskFaulted, SinkFaulted, SourceSeen, WasRead, disk_seen, sink_seen};
 ghost use Rattle.host_run.specs.Statuses.{HandsOut, HasRunReport, IsServedAs};
 ghost use Rattle.host_run.specs.Words.{IsMakeable, playing_by};
 ghost use Rattle.host_run.specs.Writes.{PutsText};
@@ -40,8 +39,8 @@ pub fn load<R: Threads + Wait + Sync, D: Disk + Send, K: Sink, G: Gate + Sync>(
     requires numbers { IsMakeable seed sessions requests }
     requires setting { IsSetting mode.setting }
     ensures no_words { result.status ≢ BadWords }
-    ensures disk_fault { result.status ≡ DiskFault → Rose (D.counts disk).faults (D.counts result.disk).faults }
-    ensures sink_fault { result.status ≡ SinkFault → Rose (K.faults out.old) (K.faults out.new) }
+    ensures disk_fault { result.status ≡ DiskFault → DiskFaulted (disk_seen D.Disk disk) (disk_seen D.Disk result.disk) }
+    ensures sink_fault { result.status ≡ SinkFault → SinkFaulted (sink_seen K.Sink out.old) (sink_seen K.Sink out.new) }
     ensures no_source { result.status ≢ ScriptFault }
 
     // What it leaves, whatever the source, which it doesn't touch.
@@ -56,6 +55,8 @@ pub fn load<R: Threads + Wait + Sync, D: Disk + Send, K: Sink, G: Gate + Sync>(
         copy = result.dry;
     }) result.status result.report }
     ensures opens_none { IsTrue mode.dry → OpensNone (D.shape disk) (D.shape result.disk) }
+    ensures reads { IsTrue mode.dry → WasRead (disk_seen D.Disk disk) (disk_seen D.Disk result.disk) }
+    ensures refused_reads { IfNone result.report (WasRead (disk_seen D.Disk disk) (disk_seen D.Disk result.disk)) }
     ensures report { HasRunReport result.status result.report }
     ensures served { IsServedAs result.served result.report }
     ensures dry { HandsOut mode.dry result.dry result.status result.report }

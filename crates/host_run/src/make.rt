@@ -1,9 +1,8 @@
 //! `make`: the text of a generated script.
 ghost use Rattle.std.specs.Prelude.{◌≡◌, ◌++◌, IsTrue, None};
-ghost use Rattle.host_io.specs.Causes.{Rose};
 ghost use Rattle.host_run.specs.Made.{IsMakeStatus, IsPutStatus, PutsScript};
 ghost use Rattle.host_run.specs.Refusals.{refusal_line};
-ghost use Rattle.host_run.specs.Seen.{sink_seen};
+ghost use Rattle.host_run.specs.Seen.{SinkFaulted, sink_seen};
 ghost use Rattle.host_run.specs.Words.{IsMakeable};
 ghost use Rattle.host_run.specs.Writes.{PutsText};
 ghost use Rattle.host_run.specs.declared.status.RunStatus.TheVariants.{Done, OutOfMemory, SinkFault};
@@ -29,7 +28,7 @@ pub fn make<D, K: Sink>(
 ) -> Outcome<D>
     requires { IsMakeable seed sessions requests }
     ensures status { IsMakeStatus result.status }
-    ensures sink_fault { result.status ≡ SinkFault → Rose (K.faults out.old) (K.faults out.new) }
+    ensures sink_fault { result.status ≡ SinkFault → SinkFaulted (sink_seen K.Sink out.old) (sink_seen K.Sink out.new) }
     ensures disk { result.disk ≡ disk }
     ensures no_dry { result.dry ≡ None }
     ensures no_report { result.report ≡ None }
@@ -46,7 +45,7 @@ pub fn make<D, K: Sink>(
 // Puts the text of a script.
 fn put_script<D, K: Sink>(script: &Script, disk: D, out: &mut K) -> Outcome<D>
     ensures status { IsPutStatus result.status }
-    ensures sink_fault { result.status ≡ SinkFault → Rose (K.faults out.old) (K.faults out.new) }
+    ensures sink_fault { result.status ≡ SinkFault → SinkFaulted (sink_seen K.Sink out.old) (sink_seen K.Sink out.new) }
     ensures disk { result.disk ≡ disk }
     ensures no_dry { result.dry ≡ None }
     ensures no_report { result.report ≡ None }

@@ -1,12 +1,11 @@
 //! A script is played and told.
 ghost use Rattle.std.specs.Prelude.{◌≡◌, ◌≢◌, Option, IfErr, IfNone, IfOk, IsTrue};
-ghost use Rattle.host_io.specs.Causes.{Rose};
 ghost use Rattle.host_io.specs.Disks.{OpensNone};
 ghost use Rattle.host_play.specs.Stages.{IsSetting};
 ghost use Rattle.host_run.specs.Ending.{IsScriptOf};
 ghost use Rattle.host_run.specs.Refusals.{refusal_line};
 ghost use Rattle.host_run.specs.Runs.{IsRunOn, RunLeaves};
-ghost use Rattle.host_run.specs.Seen.{SourceSeen, disk_seen, sink_seen};
+ghost use Rattle.host_run.specs.Seen.{DiskFaulted, SinkFaulted, SourceSeen, WasRead, disk_seen, sink_seen};
 ghost use Rattle.host_run.specs.Statuses.{HandsOut, HasRunReport, IsServedAs};
 ghost use Rattle.host_run.specs.Words.{Making, playing_by};
 ghost use Rattle.host_run.specs.Writes.{PutsText};
@@ -46,8 +45,8 @@ pub fn play_and_tell<R: Threads + Wait + Sync, D: Disk + Send, K: Sink, G: Gate 
     requires fit { IsFit size (plans_of script) }
     requires setting { IsSetting mode.setting }
     ensures no_words { result.status ≢ BadWords }
-    ensures disk_fault { result.status ≡ DiskFault → Rose (D.counts disk).faults (D.counts result.disk).faults }
-    ensures sink_fault { result.status ≡ SinkFault → Rose (K.faults out.old) (K.faults out.new) }
+    ensures disk_fault { result.status ≡ DiskFault → DiskFaulted (disk_seen D.Disk disk) (disk_seen D.Disk result.disk) }
+    ensures sink_fault { result.status ≡ SinkFault → SinkFaulted (sink_seen K.Sink out.old) (sink_seen K.Sink out.new) }
     ensures no_source { result.status ≢ ScriptFault }
 
     // What it leaves, wherever the script comes from.
@@ -62,6 +61,8 @@ pub fn play_and_tell<R: Threads + Wait + Sync, D: Disk + Send, K: Sink, G: Gate 
         copy = result.dry;
     }) result.status result.report }
     ensures opens_none { IsTrue mode.dry → OpensNone (D.shape disk) (D.shape result.disk) }
+    ensures reads { IsTrue mode.dry → WasRead (disk_seen D.Disk disk) (disk_seen D.Disk result.disk) }
+    ensures refused_reads { IfNone result.report (WasRead (disk_seen D.Disk disk) (disk_seen D.Disk result.disk)) }
     ensures report { HasRunReport result.status result.report }
     ensures served { IsServedAs result.served result.report }
     ensures dry { HandsOut mode.dry result.dry result.status result.report }

@@ -1,11 +1,10 @@
 //! `run`: a script is read and played.
 ghost use Rattle.std.specs.Prelude.{◌≡◌, ◌≢◌, None, IfNone, IsTrue};
-ghost use Rattle.host_io.specs.Causes.{Rose};
 ghost use Rattle.host_io.specs.Disks.{OpensNone};
 ghost use Rattle.host_play.specs.Stages.{IsSetting};
 ghost use Rattle.host_run.specs.Refusals.{refusal_line};
 ghost use Rattle.host_run.specs.Runs.{RunLeaves};
-ghost use Rattle.host_run.specs.Seen.{disk_seen, sink_seen, source_seen};
+ghost use Rattle.host_run.specs.Seen.{DiskFaulted, SinkFaulted, SourceFaulted, disk_seen, sink_seen, source_seen};
 ghost use Rattle.host_run.specs.Statuses.{HandsOut, HasRunReport, IsServedAs};
 ghost use Rattle.host_run.specs.Words.{playing_by};
 ghost use Rattle.host_run.specs.Writes.{PutsText};
@@ -37,9 +36,9 @@ pub fn run_script<R: Threads + Wait + Sync, S: Source, D: Disk + Send, K: Sink, 
 ) -> Outcome<D>
     requires setting { IsSetting mode.setting }
     ensures no_words { result.status ≢ BadWords }
-    ensures disk_fault { result.status ≡ DiskFault → Rose (D.counts disk).faults (D.counts result.disk).faults }
-    ensures sink_fault { result.status ≡ SinkFault → Rose (K.faults out.old) (K.faults out.new) }
-    ensures script_fault { result.status ≡ ScriptFault → Rose (S.faults source.old) (S.faults source.new) }
+    ensures disk_fault { result.status ≡ DiskFault → DiskFaulted (disk_seen D.Disk disk) (disk_seen D.Disk result.disk) }
+    ensures sink_fault { result.status ≡ SinkFault → SinkFaulted (sink_seen K.Sink out.old) (sink_seen K.Sink out.new) }
+    ensures script_fault { result.status ≡ ScriptFault → SourceFaulted (source_seen S.Source source.old) (source_seen S.Source source.new) }
     ensures run { RunLeaves (record {
         playing = playing_by image.now size mode None;
         source = source_seen S.Source source.old;

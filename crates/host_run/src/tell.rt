@@ -1,7 +1,7 @@
 //! A run that was played is told.
 ghost use Rattle.std.specs.Prelude.{◌≡◌, Some};
-ghost use Rattle.host_io.specs.Causes.{HasCause, Rose};
-ghost use Rattle.host_run.specs.Seen.{sink_seen};
+ghost use Rattle.host_io.specs.Causes.{HasCause};
+ghost use Rattle.host_run.specs.Seen.{SinkFaulted, sink_seen};
 ghost use Rattle.host_run.specs.Statuses.{HasRunReport, IsEndStatus, played_status};
 ghost use Rattle.host_run.specs.Words.{text_of};
 ghost use Rattle.host_run.specs.Writes.{TellsRun};
@@ -19,7 +19,7 @@ use host_report::{Closing, Report, write_report, write_summary};
 pub fn tell<D, K: Sink>(run: PlayedRun<D>, text: Text, out: &mut K) -> Outcome<D>
     ensures status { IsEndStatus result.status }
     ensures ended { HasRunReport result.status result.report }
-    ensures sink_fault { result.status ≡ SinkFault → Rose (K.faults out.old) (K.faults out.new) }
+    ensures sink_fault { result.status ≡ SinkFault → SinkFaulted (sink_seen K.Sink out.old) (sink_seen K.Sink out.new) }
     ensures disk { result.disk ≡ run.disk }
     ensures dry { result.dry ≡ run.dry }
     ensures report { result.report ≡ Some run.report }

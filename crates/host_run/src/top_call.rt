@@ -5,7 +5,7 @@ ghost use Rattle.host_run.specs.Listed.{ListLeaves};
 ghost use Rattle.host_run.specs.Made.{PutsScript};
 ghost use Rattle.host_run.specs.Refusals.{refusal_line};
 ghost use Rattle.host_run.specs.Runs.{RunLeaves};
-ghost use Rattle.host_run.specs.Seen.{DiskFailed, SinkFailed, SourceFailed, WasRead, disk_seen, sink_seen, source_seen};
+ghost use Rattle.host_run.specs.Seen.{DiskFaulted, SinkFaulted, SourceFaulted, WasRead, disk_seen, sink_seen, source_seen};
 ghost use Rattle.host_run.specs.Statuses.{HandsOut, HasReport, IsServedAs};
 ghost use Rattle.host_run.specs.Words.{listing_in, making_in, playing_in, plays_on_disk, reads_script, said_by};
 ghost use Rattle.host_run.specs.Writes.{PutsText};
@@ -40,9 +40,9 @@ pub fn run<'a, R: Threads + Wait + Sync, S: Source, D: Disk + Send, K: Sink, G: 
     gate: &G,
 ) -> Outcome<D>
     // A status that names a failure comes only where that object's count rose.
-    ensures disk_fault { result.status ≡ DiskFault → DiskFailed (disk_seen D.Disk disk) (disk_seen D.Disk result.disk) }
-    ensures script_fault { result.status ≡ ScriptFault → SourceFailed (source_seen S.Source script.old) (source_seen S.Source script.new) }
-    ensures sink_fault { result.status ≡ SinkFault → SinkFailed (sink_seen K.Sink out.old) (sink_seen K.Sink out.new) }
+    ensures disk_fault { result.status ≡ DiskFault → DiskFaulted (disk_seen D.Disk disk) (disk_seen D.Disk result.disk) }
+    ensures script_fault { result.status ≡ ScriptFault → SourceFaulted (source_seen S.Source script.old) (source_seen S.Source script.new) }
+    ensures sink_fault { result.status ≡ SinkFault → SinkFaulted (sink_seen K.Sink out.old) (sink_seen K.Sink out.new) }
 
     // Words outside the grammar are told exactly, but for want of memory. The source is touched by `run` alone, and the disk
     // by no call but those that play or list.

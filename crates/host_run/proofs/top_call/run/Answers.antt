@@ -1,4 +1,4 @@
-use Rattle.std.proofs.Common.{◌≡◌, ◌≢◌, ◌∙◌, Option, ap, refl, subst, sym}
+use Rattle.std.proofs.Common.{◌≡◌, ◌≢◌, ◌∙◌, Option, ap, subst, sym}
 use Rattle.std.specs.Prelude.{IfSome}
 use Rattle.host_io.specs.declared.mem_disk.MemDisk.{MemDisk}
 use Rattle.host_run.specs.Listed.{Listing}
@@ -9,7 +9,7 @@ use Rattle.host_run.specs.Words.{Playing, playing_in, said_by}
 use Rattle.host_run.specs.Writes.{PutsText}
 use Rattle.host_run.specs.declared.status.RunStatus.TheVariants.{Done, SinkFault}
 use Rattle.host_run.proofs.Calls.{if_none, listed_line}
-use Rattle.host_run.proofs.Left.{copy_reads, oom_leaves, refusal_reads, untouched}
+use Rattle.host_run.proofs.Left.{oom_leaves, untouched}
 use Rattle.host_run.proofs.top_call.run.Goals as goal
 
 pub returns-in-Err-Oom-clause-run : goal.returns-in-Err-Oom-clause-run
@@ -40,13 +40,3 @@ returns-in-List-clause-line g c =
     } in
     let s = c.list.result.status in
     if_none c.list.result.report (s ≢ Done → s ≢ SinkFault → PutsText l.sink l.new_sink (refusal_line s)) (listed_line l s c.list.ensures.leaves)
-
-pub returns-in-Load-clause-only_reads : goal.returns-in-Load-clause-only_reads
-returns-in-Load-clause-only_reads g c = λ plays.
-    let source = source_seen g.S.Source c.args.script.now in
-    copy_reads (c.load.ensures.run source source) refl
-
-pub returns-in-Load-clause-refused_reads : goal.returns-in-Load-clause-refused_reads
-returns-in-Load-clause-refused_reads g c =
-    let source = source_seen g.S.Source c.args.script.now in
-    refusal_reads (c.load.ensures.run source source)
