@@ -3,4 +3,6 @@
 
 mod laws;
 
-pub use laws::{gathered_reports_are_lawful, gathered_runs_are_lawful, gathered_sessions_are_lawful};
+pub use laws::{
+    gathered_reports_are_lawful, gathered_runs_are_lawful, gathered_sessions_are_lawful,
+};
