@@ -1,6 +1,6 @@
 -- What a call leaves, in terms of the words that ask for it.
-use Rattle.std.proofs.Common.{◌≡◌, ◌≢◌, Option, Some, None, refl, subst, sym}
-use Rattle.std.specs.Prelude.{IfNone, IfSome}
+use Rattle.std.proofs.Common.{◌≢◌, Option, Some, None, refl}
+use Rattle.std.specs.Prelude.{IfNone}
 use Rattle.host_report.specs.declared.report.Report.{Report}
 use Rattle.host_run.specs.Listed.{ListLeaves, Listing}
 use Rattle.host_run.specs.Refusals.{refusal_line}
@@ -8,11 +8,6 @@ use Rattle.host_run.specs.Writes.{PutsText}
 use Rattle.host_run.specs.declared.status.RunStatus.{RunStatus}
 use Rattle.host_run.specs.declared.status.RunStatus.TheVariants as status
 use Rattle.host_start.specs.declared.error.Limit.TheVariants as limit
-
--- ---- words that ask for something, or don't
-
-pub asked : {A : Type 0} (o : Option A) (a : A) (P : A → Type 0) → o ≡ Some a → P a → IfSome o P
-asked o a P is holds = subst (λ x. IfSome x P) (sym is) holds
 
 pub if_none : (report : Option Report) (P : Type 0) → P → IfNone report P
 if_none None P holds = holds

@@ -27,9 +27,9 @@ pub record KeepsWhatWasFlushed (disk : PlayedDisk) (report : Report) : Type 0 wh
 pub record Headline (scene : Scene) (report : Report) : Type 0 where
   -- The script was played, by a server that was started with a session for each of the script's and was finished.
   pub played : IsPlayed scene report
-  -- Its requests were answered as the rules say, whatever the disk: each session is lawful, and the steps are theirs.
+  -- The requests were answered as the rules say, whatever the disk: each session is lawful, and the steps are theirs.
   pub answered : IsLawfulOnAnyDisk report
-  -- They were on the ranges of one layout on the disk's blocks.
+  -- Each session was on the range that one layout of the disk's blocks gives to its partition, whatever the disk.
   pub laid_out : IsLaidOut report
   -- The report is lawful for the image that was played on, where that disk tells.
   pub lawful : IsLawfulOn (played_disk (site_of scene)) report

@@ -34,10 +34,10 @@ pub fn list<D: Disk, K: Sink>(
     ensures no_report { result.report ≡ None }
     ensures not_served { result.served ≡ None }
     ensures leaves { ListLeaves (record {
-        asked = record { name = image.now; size = size };
-        disk = disk_seen D.Disk disk;
-        sink = sink_seen K.Sink out.old;
-        new_sink = sink_seen K.Sink out.new;
+      asked = record { name = image.now; size = size };
+      disk = disk_seen D.Disk disk;
+      sink = sink_seen K.Sink out.old;
+      new_sink = sink_seen K.Sink out.new;
     }) result.status }
 {
     let mut disk = disk;

@@ -45,14 +45,14 @@ pub fn load<R: Threads + Wait + Sync, D: Disk + Send, K: Sink, G: Gate + Sync>(
 
     // What it leaves, whatever the source, which it doesn't touch.
     ensures run { (source new_source : SourceSeen) → RunLeaves (record {
-        playing = playing_by image.now size mode (Some (record { seed = seed; sessions = sessions; requests = requests }));
-        source = source;
-        new_source = new_source;
-        disk = disk_seen D.Disk disk;
-        new_disk = disk_seen D.Disk result.disk;
-        sink = sink_seen K.Sink out.old;
-        new_sink = sink_seen K.Sink out.new;
-        copy = result.dry;
+      playing = playing_by image.now size mode (Some (record { seed = seed; sessions = sessions; requests = requests }));
+      source = source;
+      new_source = new_source;
+      disk = disk_seen D.Disk disk;
+      new_disk = disk_seen D.Disk result.disk;
+      sink = sink_seen K.Sink out.old;
+      new_sink = sink_seen K.Sink out.new;
+      copy = result.dry;
     }) result.status result.report }
     ensures opens_none { IsTrue mode.dry → OpensNone (D.shape disk) (D.shape result.disk) }
     ensures reads { IsTrue mode.dry → WasRead (disk_seen D.Disk disk) (disk_seen D.Disk result.disk) }
@@ -60,7 +60,8 @@ pub fn load<R: Threads + Wait + Sync, D: Disk + Send, K: Sink, G: Gate + Sync>(
     ensures report { HasRunReport result.status result.report }
     ensures served { IsServedAs result.served result.report }
     ensures dry { HandsOut mode.dry result.dry result.status result.report }
-    ensures line { IfNone result.report (PutsText (sink_seen K.Sink out.old) (sink_seen K.Sink out.new) (refusal_line result.status)) }
+    ensures line { IfNone result.report
+        (PutsText (sink_seen K.Sink out.old) (sink_seen K.Sink out.new) (refusal_line result.status)) }
 {
     match make_script(alloc, seed, sessions, requests, size) {
         Ok(script) => play_and_tell(rt, alloc, script, image, size, mode, disk, out, gate),

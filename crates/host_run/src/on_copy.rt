@@ -36,20 +36,20 @@ pub fn play_on_copy<R: Threads + Wait + Sync, D: Disk, G: Gate + Sync>(
     ensures played { IfOk result (λ run. IsPlayOf (plans_of script) setting.workers setting.depth run.report) }
     ensures served { IfOk result (λ run. reported run.served ≡ run.report) }
     ensures ran { IfOk result (λ run. IsRunOn (record {
-        name = image.now;
-        size = size;
-        on_copy = true;
-        disk = disk_seen D.Disk disk;
-        new_disk = disk_seen D.Disk run.disk;
-        copy = run.dry;
+      name = image.now;
+      size = size;
+      on_copy = true;
+      disk = disk_seen D.Disk disk;
+      new_disk = disk_seen D.Disk run.disk;
+      copy = run.dry;
     }) setting.cut run.report) }
     ensures refused { IfErr result (λ no. IsNoRun (record {
-        name = image.now;
-        size = size;
-        on_copy = true;
-        disk = disk_seen D.Disk disk;
-        new_disk = disk_seen D.Disk no.disk;
-        copy = no.dry;
+      name = image.now;
+      size = size;
+      on_copy = true;
+      disk = disk_seen D.Disk disk;
+      new_disk = disk_seen D.Disk no.disk;
+      copy = no.dry;
     }) (plans_of script) no.error) }
     ensures opens_none { IfOk result (λ run. OpensNone (D.shape disk) (D.shape run.disk)) }
     ensures refused_opens_none { IfErr result (λ no. OpensNone (D.shape disk) (D.shape no.disk)) }

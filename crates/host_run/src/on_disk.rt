@@ -35,20 +35,20 @@ pub fn play_on_disk<R: Threads + Wait + Sync, D: Disk + Send, G: Gate + Sync>(
     ensures played { IfOk result (λ run. IsPlayOf (plans_of script) setting.workers setting.depth run.report) }
     ensures served { IfOk result (λ run. reported run.served ≡ run.report) }
     ensures ran { IfOk result (λ run. IsRunOn (record {
-        name = image.now;
-        size = size;
-        on_copy = false;
-        disk = disk_seen D.Disk disk;
-        new_disk = disk_seen D.Disk run.disk;
-        copy = run.dry;
+      name = image.now;
+      size = size;
+      on_copy = false;
+      disk = disk_seen D.Disk disk;
+      new_disk = disk_seen D.Disk run.disk;
+      copy = run.dry;
     }) setting.cut run.report) }
     ensures refused { IfErr result (λ no. IsNoRun (record {
-        name = image.now;
-        size = size;
-        on_copy = false;
-        disk = disk_seen D.Disk disk;
-        new_disk = disk_seen D.Disk no.disk;
-        copy = no.dry;
+      name = image.now;
+      size = size;
+      on_copy = false;
+      disk = disk_seen D.Disk disk;
+      new_disk = disk_seen D.Disk no.disk;
+      copy = no.dry;
     }) (plans_of script) no.error) }
 {
     let mut disk = disk;

@@ -50,23 +50,26 @@ pub fn play_and_tell<R: Threads + Wait + Sync, D: Disk + Send, K: Sink, G: Gate 
     ensures no_source { result.status ≢ ScriptFault }
 
     // What it leaves, wherever the script comes from.
-    ensures run { (making : Option Making) (source new_source : SourceSeen) → IsScriptOf size making source new_source (plans_of script) → RunLeaves (record {
-        playing = playing_by image.now size mode making;
-        source = source;
-        new_source = new_source;
-        disk = disk_seen D.Disk disk;
-        new_disk = disk_seen D.Disk result.disk;
-        sink = sink_seen K.Sink out.old;
-        new_sink = sink_seen K.Sink out.new;
-        copy = result.dry;
-    }) result.status result.report }
+    ensures run { (making : Option Making) (source new_source : SourceSeen) →
+        IsScriptOf size making source new_source (plans_of script) →
+        RunLeaves (record {
+          playing = playing_by image.now size mode making;
+          source = source;
+          new_source = new_source;
+          disk = disk_seen D.Disk disk;
+          new_disk = disk_seen D.Disk result.disk;
+          sink = sink_seen K.Sink out.old;
+          new_sink = sink_seen K.Sink out.new;
+          copy = result.dry;
+        }) result.status result.report }
     ensures opens_none { IsTrue mode.dry → OpensNone (D.shape disk) (D.shape result.disk) }
     ensures reads { IsTrue mode.dry → WasRead (disk_seen D.Disk disk) (disk_seen D.Disk result.disk) }
     ensures refused_reads { IfNone result.report (WasRead (disk_seen D.Disk disk) (disk_seen D.Disk result.disk)) }
     ensures report { HasRunReport result.status result.report }
     ensures served { IsServedAs result.served result.report }
     ensures dry { HandsOut mode.dry result.dry result.status result.report }
-    ensures line { IfNone result.report (PutsText (sink_seen K.Sink out.old) (sink_seen K.Sink out.new) (refusal_line result.status)) }
+    ensures line { IfNone result.report
+        (PutsText (sink_seen K.Sink out.old) (sink_seen K.Sink out.new) (refusal_line result.status)) }
 {
     match play_script(rt, alloc, script, image, size, mode, disk, gate) {
         Ok(run) => tell(run, mode.text, out),
@@ -90,20 +93,20 @@ fn play_script<R: Threads + Wait + Sync, D: Disk + Send, G: Gate + Sync>(
     ensures played { IfOk result (λ run. IsPlayOf (plans_of script) mode.setting.workers mode.setting.depth run.report) }
     ensures served { IfOk result (λ run. reported run.served ≡ run.report) }
     ensures ran { IfOk result (λ run. IsRunOn (record {
-        name = image.now;
-        size = size;
-        on_copy = mode.dry;
-        disk = disk_seen D.Disk disk;
-        new_disk = disk_seen D.Disk run.disk;
-        copy = run.dry;
+      name = image.now;
+      size = size;
+      on_copy = mode.dry;
+      disk = disk_seen D.Disk disk;
+      new_disk = disk_seen D.Disk run.disk;
+      copy = run.dry;
     }) mode.setting.cut run.report) }
     ensures refused { IfErr result (λ no. IsNoRun (record {
-        name = image.now;
-        size = size;
-        on_copy = mode.dry;
-        disk = disk_seen D.Disk disk;
-        new_disk = disk_seen D.Disk no.disk;
-        copy = no.dry;
+      name = image.now;
+      size = size;
+      on_copy = mode.dry;
+      disk = disk_seen D.Disk disk;
+      new_disk = disk_seen D.Disk no.disk;
+      copy = no.dry;
     }) (plans_of script) no.error) }
     ensures opens_none { IsTrue mode.dry → IfOk result (λ run. OpensNone (D.shape disk) (D.shape run.disk)) }
     ensures refused_opens_none { IsTrue mode.dry → IfErr result (λ no. OpensNone (D.shape disk) (D.shape no.disk)) }

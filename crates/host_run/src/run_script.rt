@@ -40,20 +40,21 @@ pub fn run_script<R: Threads + Wait + Sync, S: Source, D: Disk + Send, K: Sink, 
     ensures sink_fault { result.status ≡ SinkFault → SinkFaulted (sink_seen K.Sink out.old) (sink_seen K.Sink out.new) }
     ensures script_fault { result.status ≡ ScriptFault → SourceFaulted (source_seen S.Source source.old) (source_seen S.Source source.new) }
     ensures run { RunLeaves (record {
-        playing = playing_by image.now size mode None;
-        source = source_seen S.Source source.old;
-        new_source = source_seen S.Source source.new;
-        disk = disk_seen D.Disk disk;
-        new_disk = disk_seen D.Disk result.disk;
-        sink = sink_seen K.Sink out.old;
-        new_sink = sink_seen K.Sink out.new;
-        copy = result.dry;
+      playing = playing_by image.now size mode None;
+      source = source_seen S.Source source.old;
+      new_source = source_seen S.Source source.new;
+      disk = disk_seen D.Disk disk;
+      new_disk = disk_seen D.Disk result.disk;
+      sink = sink_seen K.Sink out.old;
+      new_sink = sink_seen K.Sink out.new;
+      copy = result.dry;
     }) result.status result.report }
     ensures opens_none { IsTrue mode.dry → OpensNone (D.shape disk) (D.shape result.disk) }
     ensures report { HasRunReport result.status result.report }
     ensures served { IsServedAs result.served result.report }
     ensures dry { HandsOut mode.dry result.dry result.status result.report }
-    ensures line { IfNone result.report (PutsText (sink_seen K.Sink out.old) (sink_seen K.Sink out.new) (refusal_line result.status)) }
+    ensures line { IfNone result.report
+        (PutsText (sink_seen K.Sink out.old) (sink_seen K.Sink out.new) (refusal_line result.status)) }
 {
     match read_script(alloc, source, size) {
         Ok(script) => play_and_tell(rt, alloc, script, image, size, mode, disk, out, gate),

@@ -41,7 +41,8 @@ pub fn run<'a, R: Threads + Wait + Sync, S: Source, D: Disk + Send, K: Sink, G: 
 ) -> Outcome<D>
     // A status that names a failure comes only where that object's count rose.
     ensures disk_fault { result.status ≡ DiskFault → DiskFaulted (disk_seen D.Disk disk) (disk_seen D.Disk result.disk) }
-    ensures script_fault { result.status ≡ ScriptFault → SourceFaulted (source_seen S.Source script.old) (source_seen S.Source script.new) }
+    ensures script_fault { result.status ≡ ScriptFault →
+        SourceFaulted (source_seen S.Source script.old) (source_seen S.Source script.new) }
     ensures sink_fault { result.status ≡ SinkFault → SinkFaulted (sink_seen K.Sink out.old) (sink_seen K.Sink out.new) }
 
     // Words outside the grammar are told exactly, but for want of memory. The source is touched by `run` alone, and the disk
@@ -49,43 +50,49 @@ pub fn run<'a, R: Threads + Wait + Sync, S: Source, D: Disk + Send, K: Sink, G: 
     ensures bad_words { result.status ≡ BadWords → said_by words.entry.now ≡ None }
     ensures outside { said_by words.entry.now ≡ None → (result.status ≡ BadWords) ⊎ (result.status ≡ OutOfMemory) }
     ensures source_untouched { reads_script (said_by words.entry.now) ≡ false → script.new ≡ script.old }
-    ensures disk_untouched { playing_in (said_by words.entry.now) ≡ None → listing_in (said_by words.entry.now) ≡ None → result.disk ≡ disk }
+    ensures disk_untouched { playing_in (said_by words.entry.now) ≡ None →
+        listing_in (said_by words.entry.now) ≡ None → result.disk ≡ disk }
 
-    // What a run on a script leaves, of `run` or of `load`: the headline, or a refusal that says its cause; what can be played
-    // is played.
+    // What a run on a script leaves, of `run` or of `load`: the headline, or a refusal that says its cause; and that what can be
+    // played is played.
     ensures run { IfSome (playing_in (said_by words.entry.now)) (λ playing. RunLeaves (record {
-        playing = playing;
-        source = source_seen S.Source script.old;
-        new_source = source_seen S.Source script.new;
-        disk = disk_seen D.Disk disk;
-        new_disk = disk_seen D.Disk result.disk;
-        sink = sink_seen K.Sink out.old;
-        new_sink = sink_seen K.Sink out.new;
-        copy = result.dry;
+      playing = playing;
+      source = source_seen S.Source script.old;
+      new_source = source_seen S.Source script.new;
+      disk = disk_seen D.Disk disk;
+      new_disk = disk_seen D.Disk result.disk;
+      sink = sink_seen K.Sink out.old;
+      new_sink = sink_seen K.Sink out.new;
+      copy = result.dry;
     }) result.status result.report) }
 
     // Which statuses have a report, and that a server served it.
-    ensures report { HasReport (listing_in (said_by words.entry.now)) (making_in (said_by words.entry.now)) result.status result.report }
+    ensures report { HasReport (listing_in (said_by words.entry.now)) (making_in (said_by words.entry.now))
+        result.status result.report }
     ensures served { IsServedAs result.served result.report }
     ensures no_report { playing_in (said_by words.entry.now) ≡ None → result.report ≡ None }
 
     // The disk that was handed in was only read unless sessions were played on it, and no image was attached there to be written
     // but where the words ask for that. A copy is handed out where one was played on or its content is the cause of a refusal.
-    ensures only_reads { plays_on_disk (said_by words.entry.now) ≡ false → WasRead (disk_seen D.Disk disk) (disk_seen D.Disk result.disk) }
+    ensures only_reads { plays_on_disk (said_by words.entry.now) ≡ false →
+        WasRead (disk_seen D.Disk disk) (disk_seen D.Disk result.disk) }
     ensures opens_none { plays_on_disk (said_by words.entry.now) ≡ false → OpensNone (D.shape disk) (D.shape result.disk) }
     ensures refused_reads { IfNone result.report (WasRead (disk_seen D.Disk disk) (disk_seen D.Disk result.disk)) }
-    ensures dry { IfSome (playing_in (said_by words.entry.now)) (λ playing. HandsOut playing.dry result.dry result.status result.report) }
+    ensures dry { IfSome (playing_in (said_by words.entry.now)) (λ playing.
+        HandsOut playing.dry result.dry result.status result.report) }
     ensures no_dry { playing_in (said_by words.entry.now) ≡ None → result.dry ≡ None }
 
     // What was put: the line of a refusal, the text of a table, or that of a script. That of a report is said by `run`.
-    ensures line { IfNone result.report (result.status ≢ Done → result.status ≢ SinkFault → PutsText (sink_seen K.Sink out.old) (sink_seen K.Sink out.new) (refusal_line result.status)) }
+    ensures line { IfNone result.report (result.status ≢ Done → result.status ≢ SinkFault →
+        PutsText (sink_seen K.Sink out.old) (sink_seen K.Sink out.new) (refusal_line result.status)) }
     ensures list { IfSome (listing_in (said_by words.entry.now)) (λ listing. ListLeaves (record {
-        asked = listing;
-        disk = disk_seen D.Disk disk;
-        sink = sink_seen K.Sink out.old;
-        new_sink = sink_seen K.Sink out.new;
+      asked = listing;
+      disk = disk_seen D.Disk disk;
+      sink = sink_seen K.Sink out.old;
+      new_sink = sink_seen K.Sink out.new;
     }) result.status) }
-    ensures make { IfSome (making_in (said_by words.entry.now)) (λ making. PutsScript (sink_seen K.Sink out.old) (sink_seen K.Sink out.new) making result.status) }
+    ensures make { IfSome (making_in (said_by words.entry.now)) (λ making.
+        PutsScript (sink_seen K.Sink out.old) (sink_seen K.Sink out.new) making result.status) }
 {
     let command = match read_command(alloc, words) {
         Ok(command) => command,
