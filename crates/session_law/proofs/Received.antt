@@ -17,23 +17,23 @@ use Rattle.host_session.specs.Acts.{Act, IsAct, IsEventAfter, log_of, slips_of}
 use Rattle.session_law.proofs.Places.{found_at}
 use Rattle.session_law.proofs.Sending.{none_is, sent_until}
 
-none_is : {B : Type 0} (o : Option B) → o ≡ None → is_some o ≡ false
-none_is None e = refl
-none_is (Some x) e = absurd (cc)
+no_slip : {B : Type 0} (o : Option B) → o ≡ None → is_some o ≡ false
+no_slip None e = refl
+no_slip (Some x) e = absurd (cc)
 
 module _ (h : List MemEntry) (before : List Act) (a : Act) where
   -- a slip comes with an answer, and with nothing else
   slip_there : (e : Event) → IsEventAfter h before a e → is_some a.slip ≡ is_some (received_bytes e)
-  slip_there (Attached pages id) is = none_is a.slip is.plain.slip
-  slip_there (NotAttached pages cause) is = none_is a.slip is.slip
-  slip_there (Filled id block count byte true) is = none_is a.slip is.plain.slip
-  slip_there (Filled id block count byte false) is = none_is a.slip is.plain.slip
-  slip_there (Shown id block count true bytes) is = none_is a.slip is.plain.slip
-  slip_there (Shown id block count false bytes) is = none_is a.slip is.plain.slip
-  slip_there (Sent index bytes) is = none_is a.slip is.slip
+  slip_there (Attached pages id) is = no_slip a.slip is.plain.slip
+  slip_there (NotAttached pages cause) is = no_slip a.slip is.slip
+  slip_there (Filled id block count byte true) is = no_slip a.slip is.plain.slip
+  slip_there (Filled id block count byte false) is = no_slip a.slip is.plain.slip
+  slip_there (Shown id block count true bytes) is = no_slip a.slip is.plain.slip
+  slip_there (Shown id block count false bytes) is = no_slip a.slip is.plain.slip
+  slip_there (Sent index bytes) is = no_slip a.slip is.slip
   slip_there (Received bytes) is = ap is_some is.slip
-  slip_there Drained is = none_is a.slip is.plain.slip
-  slip_there Aborted is = none_is a.slip is.slip
+  slip_there Drained is = no_slip a.slip is.plain.slip
+  slip_there Aborted is = no_slip a.slip is.slip
 
   -- it answers a record that was sent before
   slip_before : (x : Slip) → a.slip ≡ Some x → (e : Event) → IsEventAfter h before a e → x.index < length (sent (log_of before))
