@@ -1,5 +1,5 @@
 -- What playing a script leaves.
-use Rattle.std.specs.Prelude.{◌≡◌, ◌↔◌, ℕ, Bool, true, false, IsTrue, List, map, Option, Some, None, IsSome, IfSome}
+use Rattle.std.specs.Prelude.{◌≡◌, ◌↔◌, ◌≤◌, ℕ, Bool, true, false, IsTrue, List, map, Option, Some, None, IsSome, IfSome}
 use Rattle.host_block.specs.declared.range.Range.{Range}
 use Rattle.host_device.specs.Faults.{RoseBy, faulted_count}
 use Rattle.host_io.specs.declared.mem_disk.MemDisk.{MemDisk}
@@ -40,6 +40,8 @@ IsOpenedThere site = IsTrue site.disk.shape.tells → IfSome site.copy (λ copy.
 -- What a run leaves of the disk and of the copy, and what its report tells of them.
 pub record LeavesPlayed (site : Site) (cut : Bool) (report : Report) : Type 0 where
   pub size_is : report.size ≡ site.size
+  -- no image of more blocks than this is played
+  pub few : report.blocks ≤ 262144
   -- the closing flush was left out exactly where that is asked for
   pub cut_is : (report.closing ≡ WasCut) ↔ IsTrue cut
   -- there is a copy exactly where that is asked for

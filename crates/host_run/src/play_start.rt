@@ -1,5 +1,5 @@
 //! A start is played on the disk that holds its image.
-ghost use Rattle.std.specs.Prelude.{◌≡◌, ◌↔◌, ℕ, Bool, List, IfErr, IfOk, IsTrue, length, map, true};
+ghost use Rattle.std.specs.Prelude.{◌≡◌, ◌↔◌, ◌≤◌, ℕ, Bool, List, IfErr, IfOk, IsTrue, length, map, true};
 ghost use Rattle.host_device.specs.Faults.{RoseBy, faulted_count};
 ghost use Rattle.host_play.specs.Plays.{IsReportOf};
 ghost use Rattle.host_play.specs.Stages.{IsGround, IsSetting};
@@ -40,6 +40,7 @@ pub fn play_start<R: Threads + Wait + Sync, D: Disk + Send, G: Gate + Sync>(
     ensures report { IfOk result (λ run. IsReportOf (plans_of start.now.script) (ranges_in run.report) setting.workers setting.depth run.report) }
     ensures served { IfOk result (λ run. reported run.served ≡ run.report) }
     ensures size { IfOk result (λ run. run.report.size ≡ start.now.size) }
+    ensures few { IfOk result (λ run. run.report.blocks ≤ 262144) }
     ensures cut { IfOk result (λ run. (run.report.closing ≡ WasCut) ↔ IsTrue setting.cut) }
 
     // The report is lawful for the image on which the start has its partitions, and a crash leaves what its steps allow.

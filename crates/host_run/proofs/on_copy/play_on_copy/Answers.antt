@@ -38,6 +38,7 @@ returns-in-Ok-play_start-clause-ran g c =
       keeps = record { kept = λ told left crash. subst (λ (i : List (List ℕ)). KeepsFlushed i run.report left) (sym same) (sound.flushed left crash) };
       left = record {
         size_is = ran.size ∙ ready.size;
+        few = ran.few;
         cut_is = ran.cut;
         copy_is = (λ h. refl, λ h. refl);
         opened = λ told. same ∙ ready.copied told;

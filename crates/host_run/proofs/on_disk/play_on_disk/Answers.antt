@@ -27,6 +27,7 @@ returns-in-Ok-play_start-clause-ran g c =
       keeps = record { kept = λ told. (sound told).flushed };
       left = record {
         size_is = ran.size ∙ ready.size;
+        few = ran.few;
         cut_is = ran.cut;
         copy_is = (λ h. absurd (cc h), λ h. absurd (cc h));
         opened = λ told. tt;

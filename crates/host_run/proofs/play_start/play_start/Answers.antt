@@ -1,4 +1,4 @@
-use Rattle.std.proofs.Common.{◌≡◌, ◌∙◌, ℕ, ◌+◌, ◌≤◌, List, ap, map, subst, sym}
+use Rattle.std.proofs.Common.{◌≡◌, ◌∙◌, ℕ, ◌+◌, ◌≤◌, List, ap, arith, map, subst, sym}
 use Rattle.std.specs.Prelude.{All, IfOk}
 use Rattle.host_block.specs.declared.range.Range.{Range}
 use Rattle.host_model.specs.Changes.{changes_of}
@@ -58,4 +58,13 @@ returns-clause-laid_out g c = λ tells image placed.
     (λ run. IsLaidOut run.report)
     (λ run of shown. played_runs_are_laid_out tells image start workers depth run.report placed shown.0 of)
     (subst (λ (l : List Range). IfOk c.play.result (λ run. IsReportOf (plans_of start.script) l workers depth run.report)) same c.play.ensures.report)
+    c.play.ensures.image
+
+pub returns-clause-few : goal.returns-clause-few
+returns-clause-few g c =
+    let start = c.args.start.now in
+    on_one c.play.result
+    (λ run. (run.report.blocks ≡ start.blocks) × (run.report.size ≡ start.size) × (run.report.which ≡ start.which))
+    (λ run. run.report.blocks ≤ 262144)
+    (λ run shown. let same = shown.0 in let few = start.few_blocks in omega (arith, same, few))
     c.play.ensures.image
