@@ -1,5 +1,5 @@
 -- How a run ends, from what it leaves.
-use Rattle.std.proofs.Common.{◌≡◌, ◌⊎◌, inl, inr, ℕ, ◌<◌, ◌≤◌, suc, List, ◌++◌, length, Option, Some, None, Ok, Err, refl, sym, ◌∙◌, ap, subst, arith}
+use Rattle.std.proofs.Common.{◌≡◌, ◌⊎◌, inl, inr, ℕ, ◌≤◌, List, ◌++◌, length, Option, Some, None, Ok, Err, refl, sym, ◌∙◌, ap, subst, arith}
 use Rattle.std.proofs.lemmas.List.{length-append}
 use Rattle.host_report.specs.declared.report.Report.{Report}
 use Rattle.host_run.specs.Ending.{IsItsScript, IsNoScript, IsNoStart, IsRefused, IsScriptOf, SaysNoScript, StandsThere}
@@ -7,7 +7,7 @@ use Rattle.host_run.specs.Headline.{Headline}
 use Rattle.host_run.specs.Played.{LeavesPlayed}
 use Rattle.host_run.specs.Refusals.{start_status}
 use Rattle.host_run.specs.Runs.{RunLeaves}
-use Rattle.host_run.specs.Scene.{Scene, image_at, site_of}
+use Rattle.host_run.specs.Scene.{Scene, site_of}
 use Rattle.host_run.specs.Seen.{SourceSeen}
 use Rattle.host_run.specs.Words.{Making}
 use Rattle.host_run.specs.declared.status.RunStatus.{RunStatus}
@@ -43,8 +43,8 @@ ends_unread scene others due status report left never told =
     (λ because. told_by others due status because.error because.is (from because.error because.why))
   where
     from : (e : StartError) → IsNoScript scene e ⊎ IsNoStart scene e → IsDue others due (start_status e)
-    from e (inl no) = told e no
-    from e (inr no) = absurd (never no.plans no.script)
+    from e (inl unplayed) = told e unplayed
+    from e (inr unplayed) = absurd (never unplayed.plans unplayed.script)
 
 -- ---- a script that stands there
 
@@ -102,11 +102,11 @@ pub refused_on : (scene : Scene) (plans : List SessionPlan) (image : List (List 
 refused_on scene plans image due status asked told because = told_by IsFailure due status because.error because.is (from because.error because.why)
   where
     from : (e : StartError) → IsNoScript scene e ⊎ IsNoStart scene e → IsDue IsFailure due (start_status e)
-    from e (inl no) =
-        elim (no_script scene.playing.size scene.playing.making scene.source scene.new_source plans e asked.script no.cause no.says) [
+    from e (inl unplayed) =
+        elim (no_script scene.playing.size scene.playing.making scene.source scene.new_source plans e asked.script unplayed.cause unplayed.says) [
           | inl source ↦ inr (inr (inl (ap start_status source)))
           | inr memory ↦ inr (inr (inr (ap start_status memory)))
         ]
-    from e (inr no) =
-        let same = same_plans scene.playing.size scene.playing.making scene.source scene.new_source plans no.plans asked.script no.script in
-        told e no.cause (subst (λ (p : List SessionPlan). SaysOfImage image (parts_of p) e) same (subst (λ (i : List (List ℕ)). SaysOfImage i (parts_of no.plans) e) asked.held (no.says asked.tells)))
+    from e (inr unplayed) =
+        let same = same_plans scene.playing.size scene.playing.making scene.source scene.new_source plans unplayed.plans asked.script unplayed.script in
+        told e unplayed.cause (subst (λ (p : List SessionPlan). SaysOfImage image (parts_of p) e) same (subst (λ (i : List (List ℕ)). SaysOfImage i (parts_of unplayed.plans) e) asked.held (unplayed.says asked.tells)))

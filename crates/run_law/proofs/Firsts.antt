@@ -1,5 +1,5 @@
 -- An image has one first session that it doesn't serve.
-use Rattle.std.proofs.Common.{◌≡◌, ℕ, zero, suc, ◌+◌, ◌<◌, List, [], ◌∷◌, ◌++◌, length, drop, get_or, map, refl, sym, ◌∙◌, ap, subst, arith}
+use Rattle.std.proofs.Common.{◌≡◌, ℕ, suc, ◌+◌, List, [], ◌∷◌, ◌++◌, length, get_or, map, refl, sym, ◌∙◌, ap, subst, arith}
 use Rattle.std.specs.Prelude.{All}
 use Rattle.std.specs.List.{AllByRecursion, AllZip}
 use Rattle.host_gpt.proofs.LawLemmas.{one_table}
@@ -8,7 +8,6 @@ use Rattle.host_part.specs.Ranges.{IsRangeOf}
 use Rattle.host_part.specs.Served.{Layout}
 use Rattle.host_report.specs.Played.{IsPlayedBy}
 use Rattle.host_report.specs.declared.session.SessionReport.{SessionReport}
-use Rattle.host_run.specs.declared.status.RunStatus.{RunStatus}
 use Rattle.host_run.specs.declared.status.RunStatus.TheVariants.{NoPart}
 use Rattle.host_start.specs.Images.{IsFirstUnserved, IsLayoutOn, IsServedPart, LacksPart, parts_of}
 use Rattle.script_model.specs.Plans.{SessionPlan}
@@ -53,7 +52,7 @@ one_unserved layout parts session session' part part' a b =
 pub one_lack : (image : List (List ℕ)) (parts : List ℕ) (session session' part part' : ℕ) → LacksPart image parts session part → LacksPart image parts session' part' → NoPart session' part' ≡ NoPart session part
 one_lack image parts session session' part part' a b =
     let one = one_unserved a.layout parts session session' part part' a.first
-        (subst (λ (l : Layout). IsFirstUnserved l parts session' part') (same_layout image b.which a.which b.layout a.layout b.on_image a.on_image) b.first) in
+    (subst (λ (l : Layout). IsFirstUnserved l parts session' part') (same_layout image b.which a.which b.layout a.layout b.on_image a.on_image) b.first) in
     ap (λ (n : ℕ). NoPart n part') one.0 ∙ ap (λ (p : ℕ). NoPart session p) one.1
 
 -- the partition of each session that was played on a layout is served

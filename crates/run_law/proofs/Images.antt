@@ -1,6 +1,6 @@
 -- A run on an image on which its script can't be played ends with the status that says why.
-use Rattle.std.proofs.Common.{◌≡◌, ◌⊎◌, inl, inr, ℕ, ◌<◌, ◌≤◌, List, length, Option, Some, None, refl, sym, ◌∙◌, ap, subst, arith}
-use Rattle.std.specs.Prelude.{IsTrue, IfSome, IfNone}
+use Rattle.std.proofs.Common.{◌≡◌, inl, inr, ℕ, ◌<◌, ◌≤◌, List, length, Option, Some, None, refl, subst, arith}
+use Rattle.std.specs.Prelude.{IsTrue, IfSome}
 use Rattle.host_gpt.proofs.LawLemmas.{large_excludes, table_excludes}
 use Rattle.host_gpt.specs.Table.{TableIsAbsent, TableIsTooLarge}
 use Rattle.host_io.specs.declared.mem_disk.MemDisk.{MemDisk}
@@ -10,11 +10,10 @@ use Rattle.host_report.specs.declared.report.Report.{Report}
 use Rattle.host_run.specs.Headline.{Headline, IsLawfulOn}
 use Rattle.host_run.specs.Played.{LeavesPlayed}
 use Rattle.host_run.specs.Refusals.{start_status}
-use Rattle.host_run.specs.Runs.{RunLeaves}
 use Rattle.host_run.specs.Scene.{PlayedDisk, Scene, copy_or, image_at, opening_image, site_of}
 use Rattle.host_run.specs.declared.status.RunStatus.{RunStatus}
 use Rattle.host_run.specs.declared.status.RunStatus.TheVariants.{NoPart, NoTable, TooLarge}
-use Rattle.host_start.specs.Images.{IsFirstUnserved, IsLayoutOn, IsServedPart, IsSmallEnough, LacksPart, SaysOfImage, parts_of}
+use Rattle.host_start.specs.Images.{IsLayoutOn, IsServedPart, IsSmallEnough, LacksPart, SaysOfImage, parts_of}
 use Rattle.host_start.specs.Refusals.{IsAfterScript}
 use Rattle.host_start.specs.declared.error.Limit.TheVariants as limit
 use Rattle.host_start.specs.declared.error.StartError.{StartError}
@@ -37,6 +36,10 @@ lawful_there : (scene : Scene) (plans : List SessionPlan) (image : List (List �
 lawful_there scene plans image report asked headline disks =
     subst (λ (i : List (List ℕ)). IsLawful i report) asked.held
     (on_image scene.playing.size scene.copy (record { tells = scene.disk.shape.tells; image = image_at (site_of scene); state = scene.new_disk.state }) report asked.tells (disks.opened asked.tells) headline.lawful)
+
+-- a report of few blocks isn't lawful for an image of many
+too_many : (image : List (List ℕ)) (report : Report) → IsLawful image report → report.blocks ≤ 262144 → 262144 < length image → ⊥
+too_many image report lawful few many = absurd (let blocks : report.blocks ≡ length image = lawful.of_image.blocks in omega (arith, blocks, few, many))
 
 -- where a report is lawful, the table is neither absent nor too large
 has_table : (image : List (List ℕ)) (report : Report) → IsLawful image report → (¬ TableIsAbsent image) × (¬ TableIsTooLarge image)
@@ -81,11 +84,12 @@ by_cause image parts due (error.TooLarge limit.Moved) many absent large lacks ca
 -- ---- the laws
 
 pub large_images_are_told : LargeImagesAreTold
-large_images_are_told scene status (Some report) plans image left asked many = tt
-large_images_are_told scene status None plans image left asked many =
-    refused_on scene plans image (TooLarge limit.Blocks) status asked
+large_images_are_told scene status report plans image left asked many =
+    ends scene IsFailure (TooLarge limit.Blocks) status report left
+    (λ r headline disks. too_many image r (lawful_there scene plans image r asked headline disks) disks.few many)
+    (refused_on scene plans image (TooLarge limit.Blocks) status asked
     (λ e. by_cause image (parts_of plans) (TooLarge limit.Blocks) e (λ same. refl) (λ few absent. absurd (not_small image many few)) (λ few large. absurd (not_small image many few))
-        (λ session part few lacks. absurd (not_small image many few))) left.refused
+    (λ session part few lacks. absurd (not_small image many few))))
 
 pub absent_tables_are_told : AbsentTablesAreTold
 absent_tables_are_told scene status report plans image left asked few absent =
@@ -93,7 +97,7 @@ absent_tables_are_told scene status report plans image left asked few absent =
     (λ r headline disks. (has_table image r (lawful_there scene plans image r asked headline disks)).0 absent)
     (refused_on scene plans image NoTable status asked
     (λ e. by_cause image (parts_of plans) NoTable e (λ many. absurd (not_small image many few)) (λ small none. refl) (λ small large. absurd (large_excludes image large absent))
-        (λ session part small lacks. absurd ((lacks_a_part image (parts_of plans) session part lacks).0 absent))))
+    (λ session part small lacks. absurd ((lacks_a_part image (parts_of plans) session part lacks).0 absent))))
 
 pub large_tables_are_told : LargeTablesAreTold
 large_tables_are_told scene status report plans image left asked few large =
@@ -101,15 +105,15 @@ large_tables_are_told scene status report plans image left asked few large =
     (λ r headline disks. (has_table image r (lawful_there scene plans image r asked headline disks)).1 large)
     (refused_on scene plans image (TooLarge limit.Table) status asked
     (λ e. by_cause image (parts_of plans) (TooLarge limit.Table) e (λ many. absurd (not_small image many few)) (λ small absent. absurd (large_excludes image large absent)) (λ small same. refl)
-        (λ session part small lacks. absurd ((lacks_a_part image (parts_of plans) session part lacks).1 large))))
+    (λ session part small lacks. absurd ((lacks_a_part image (parts_of plans) session part lacks).1 large))))
 
 pub unserved_sessions_are_told : UnservedSessionsAreTold
 unserved_sessions_are_told scene status report plans image session part left asked few lacks =
     ends scene IsFailure (NoPart session part) status report left never
     (refused_on scene plans image (NoPart session part) status asked
     (λ e. by_cause image (parts_of plans) (NoPart session part) e (λ many. absurd (not_small image many few))
-        (λ small absent. absurd ((lacks_a_part image (parts_of plans) session part lacks).0 absent)) (λ small large. absurd ((lacks_a_part image (parts_of plans) session part lacks).1 large))
-        (λ session' part' small lacks'. one_lack image (parts_of plans) session session' part part' lacks lacks')))
+    (λ small absent. absurd ((lacks_a_part image (parts_of plans) session part lacks).0 absent)) (λ small large. absurd ((lacks_a_part image (parts_of plans) session part lacks).1 large))
+    (λ session' part' small lacks'. one_lack image (parts_of plans) session session' part part' lacks lacks')))
   where
     never : (r : Report) → Headline scene r → LeavesPlayed (site_of scene) scene.playing.cut r → ⊥
     never r headline disks =

@@ -1,5 +1,5 @@
 -- A run on a script that can't be played ends with the status that says why.
-use Rattle.std.proofs.Common.{◌≡◌, ◌⊎◌, inl, inr, ◌∙◌, ℕ, ◌<◌, ◌≤◌, List, length, Option, Some, None, Result, Ok, Err, refl, sym, ap, subst, arith}
+use Rattle.std.proofs.Common.{◌≡◌, inl, inr, ◌∙◌, ℕ, ◌<◌, ◌≤◌, List, length, Option, Some, None, Result, Ok, Err, refl, sym, ap, subst, arith}
 use Rattle.std.specs.Prelude.{IsTrue}
 use Rattle.host_run.specs.Ending.{IsNoScript, IsScriptOf, SaysNoScript}
 use Rattle.host_run.specs.Refusals.{start_status}
@@ -38,7 +38,7 @@ its_saying : (size : ℕ) (making : Option Making) (before after : SourceSeen) (
 its_saying size making before after text e none tells is says = subst (λ (l : List ℕ). SaysOfScript size l after.left e) is ((subst (λ (m : Option Making). SaysNoScript size m before after e) none says) tells)
 
 saying_of : (scene : Scene) (text : List ℕ) (e : StartError) → IsReadFrom scene text → IsNoScript scene e → SaysOfScript scene.playing.size text scene.new_source.left e
-saying_of scene text e from no = its_saying scene.playing.size scene.playing.making scene.source scene.new_source text e from.read from.tells from.left no.says
+saying_of scene text e from unplayed = its_saying scene.playing.size scene.playing.making scene.source scene.new_source text e from.read from.tells from.left unplayed.says
 
 -- ---- a bad text
 
@@ -70,7 +70,7 @@ pub bad_scripts_are_told : BadScriptsAreTold
 bad_scripts_are_told scene status report text line cause left from bad =
     ends_unread scene IsUnread (BadScript line cause) status report left
     (λ plans script. not_both text plans line cause (within_of scene text plans from script).meant bad.is)
-    (λ e no. bad_status scene.playing.size text scene.new_source.left line cause e bad no.cause (saying_of scene text e from no))
+    (λ e unplayed. bad_status scene.playing.size text scene.new_source.left line cause e bad unplayed.cause (saying_of scene text e from unplayed))
 
 -- ---- a text that is too long
 
@@ -95,7 +95,7 @@ pub long_scripts_are_told : LongScriptsAreTold
 long_scripts_are_told scene status report text left from long =
     ends_unread scene IsUnread (TooLarge limit.ScriptBytes) status report left
     (λ plans script. not_short text long (within_of scene text plans from script).short)
-    (λ e no. long_status scene.playing.size text scene.new_source.left e long no.cause (saying_of scene text e from no))
+    (λ e unplayed. long_status scene.playing.size text scene.new_source.left e long unplayed.cause (saying_of scene text e from unplayed))
 
 -- ---- a limit that is passed
 
@@ -144,7 +144,7 @@ pub passed_limits_are_told : PassedLimitsAreTold
 passed_limits_are_told scene status report text what left from past =
     ends_unread scene IsUnread (TooLarge what) status report left
     (λ plans script. text_not_within scene.playing.size text what plans past (within_of scene text plans from script))
-    (λ e no. limit_status scene.playing.size text scene.new_source.left what e past no.cause (saying_of scene text e from no))
+    (λ e unplayed. limit_status scene.playing.size text scene.new_source.left what e past unplayed.cause (saying_of scene text e from unplayed))
 
 -- ---- a generated script
 
@@ -166,7 +166,7 @@ its_making size o making before after e is says = subst (λ (m : Option Making).
 pub made_limits_are_told : MadeLimitsAreTold
 made_limits_are_told scene status report making what left made past =
     ends_unread scene IsNoMemory (TooLarge what) status report left never
-    (λ e no. made_status scene.playing.size (plans_made making) what e past (its_making scene.playing.size scene.playing.making making scene.source scene.new_source e made no.says))
+    (λ e unplayed. made_status scene.playing.size (plans_made making) what e past (its_making scene.playing.size scene.playing.making making scene.source scene.new_source e made unplayed.says))
   where
     never : (plans : List SessionPlan) → IsScriptOf scene.playing.size scene.playing.making scene.source scene.new_source plans → ⊥
     never plans script =

@@ -1,5 +1,5 @@
 -- A run on an image on which its script can't be played ends with the status that says why.
-use Rattle.std.specs.Prelude.{◌≡◌, ℕ, ◌<◌, IsTrue, List, length, Option, IfNone}
+use Rattle.std.specs.Prelude.{◌≡◌, ℕ, ◌<◌, IsTrue, List, length, Option}
 use Rattle.host_gpt.specs.Table.{TableIsAbsent, TableIsTooLarge}
 use Rattle.host_report.specs.declared.report.Report.{Report}
 use Rattle.host_run.specs.Ending.{StandsThere}
@@ -10,7 +10,7 @@ use Rattle.host_run.specs.declared.status.RunStatus.TheVariants.{NoPart, NoTable
 use Rattle.host_start.specs.Images.{IsSmallEnough, LacksPart, parts_of}
 use Rattle.host_start.specs.declared.error.Limit.TheVariants as limit
 use Rattle.script_model.specs.Plans.{SessionPlan}
-use Rattle.run_law.specs.Ends.{EndsWith, IsDue, IsFailure}
+use Rattle.run_law.specs.Ends.{EndsWith, IsFailure}
 
 -- this script, which passes no limit, is to be played on this image, which the disk tells
 pub record IsAskedOn (scene : Scene) (plans : List SessionPlan) (image : List (List ℕ)) : Type 0 where
@@ -18,13 +18,13 @@ pub record IsAskedOn (scene : Scene) (plans : List SessionPlan) (image : List (L
   pub tells : IsTrue scene.disk.shape.tells
   pub held : image_at (site_of scene) ≡ image
 
--- The image has too many blocks. Where no session began, the run ends with 9 `blocks`, unless disk or source failed or memory
+-- The image has too many blocks: no session began, and the run ends with 9 `blocks`, unless disk or source failed or memory
 -- was refused.
 abbrev pub LargeImagesAreTold : Type 0
 LargeImagesAreTold = (scene : Scene) (status : RunStatus) (report : Option Report) (plans : List SessionPlan) (image : List (List ℕ)) → RunLeaves scene status report
-    → IsAskedOn scene plans image → 262144 < length image → IfNone report (IsDue IsFailure (TooLarge limit.Blocks) status)
+    → IsAskedOn scene plans image → 262144 < length image → EndsWith IsFailure (TooLarge limit.Blocks) status report
 
--- the image has no table: with 3, and no session began
+-- it has no table: with 3
 abbrev pub AbsentTablesAreTold : Type 0
 AbsentTablesAreTold = (scene : Scene) (status : RunStatus) (report : Option Report) (plans : List SessionPlan) (image : List (List ℕ)) → RunLeaves scene status report
     → IsAskedOn scene plans image → IsSmallEnough image → TableIsAbsent image → EndsWith IsFailure NoTable status report

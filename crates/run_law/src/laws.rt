@@ -22,7 +22,7 @@ pub fn made_limits_are_told()
     ensures { MadeLimitsAreTold }
 {}
 
-/// An image with too many blocks is told where no session began.
+/// An image with too many blocks is refused as such.
 pub fn large_images_are_told()
     ensures { LargeImagesAreTold }
 {}
