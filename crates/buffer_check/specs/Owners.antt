@@ -24,7 +24,7 @@ owner_by rs verdicts e = index_of e
 abbrev pub was_closed_by : Option ℕ → ℕ → List Event → Bool
 was_closed_by closing n before = option_map_or (λ i. nat_lt i (length (sent before)) && nat_lt i n) closing false
 
--- the place of the entry of the client's next event that has one
+-- where the client's next entry after these events stands
 abbrev pub next_place : List MemEvent → List Event → ℕ
 next_place history before = get_or (places is_client history) (length (told before)) (length history)
 

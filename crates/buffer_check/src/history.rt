@@ -21,16 +21,11 @@ fn push_some(list: &mut Vec<MemEvent>, event: Option<MemEvent>) -> Result<(), Oo
     }
 }
 
-fn push_if(
-    list: &mut Vec<MemEvent>,
-    alloc: Global,
-    event: &MemEvent,
-    wanted: bool,
-) -> Result<(), Oom>
+fn push_if(list: &mut Vec<MemEvent>, event: &MemEvent, wanted: bool) -> Result<(), Oom>
     ensures { OnOk result (list.new.items ≡ list.old.items ++ (if wanted then event.now ∷ [] else [])) }
 {
     if wanted {
-        let event = copy_of(alloc, event)?;
+        let event = copy_of(event)?;
         if list.push(event).is_err() {
             return Err(Oom);
         }
@@ -45,7 +40,7 @@ pub fn events_of(alloc: Global, entries: &[MemEntry]) -> Result<Vec<MemEvent>, O
 {
     let mut list = Vec::new(alloc);
     for entry in entries {
-        let event = copy_of(alloc, &entry.what)?;
+        let event = copy_of(&entry.what)?;
         if list.push(event).is_err() {
             return Err(Oom);
         }
@@ -72,61 +67,26 @@ pub fn client_entries(alloc: Global, history: &[MemEvent]) -> Result<Vec<MemEven
 {
     let mut list = Vec::new(alloc);
     for event in history {
-        push_if(&mut list, alloc, event, is_of_client(event))?;
+        push_if(&mut list, event, is_of_client(event))?;
     }
     Ok(list)
 }
 
 // The entry, where it was made for record i.
-fn entry_of_record(alloc: Global, i: usize, event: &MemEvent) -> Result<Option<MemEvent>, Oom>
+fn entry_of_record(i: usize, event: &MemEvent) -> Result<Option<MemEvent>, Oom>
     ensures { IfOk result (λ o. o ≡ entry_of i event.now) }
 {
     match event {
-        MemEvent::Pin { index, id, .. } => {
-            if *index as usize == i {
-                Ok(Some(MemEvent::Pin {
-                    index: *index,
-                    id: *id,
-                    by: 0,
-                }))
-            } else {
-                Ok(None)
-            }
-        }
-        MemEvent::Lift { index, .. } => {
-            if *index as usize == i {
-                Ok(Some(copy_of(alloc, event)?))
-            } else {
-                Ok(None)
-            }
-        }
-        MemEvent::Land { index, .. } => {
-            if *index as usize == i {
-                Ok(Some(copy_of(alloc, event)?))
-            } else {
-                Ok(None)
-            }
-        }
-        MemEvent::Done { index, id } => {
-            if *index as usize == i {
-                Ok(Some(MemEvent::Done {
-                    index: *index,
-                    id: *id,
-                }))
-            } else {
-                Ok(None)
-            }
-        }
-        MemEvent::Close { index, id } => {
-            if *index as usize == i {
-                Ok(Some(MemEvent::Close {
-                    index: *index,
-                    id: *id,
-                }))
-            } else {
-                Ok(None)
-            }
-        }
+        MemEvent::Pin { index, id, .. } if *index as usize == i => Ok(Some(MemEvent::Pin {
+            index: *index,
+            id: *id,
+            by: 0,
+        })),
+        MemEvent::Lift { index, .. }
+        | MemEvent::Land { index, .. }
+        | MemEvent::Done { index, .. }
+        | MemEvent::Close { index, .. }
+            if *index as usize == i => { Ok(Some(copy_of(event)?)) }
         _ => Ok(None),
     }
 }
@@ -138,7 +98,7 @@ pub fn record_entries(alloc: Global, i: usize, history: &[MemEvent]) -> Result<V
 {
     let mut list = Vec::new(alloc);
     for event in history {
-        let entry = entry_of_record(alloc, i, event)?;
+        let entry = entry_of_record(i, event)?;
         push_some(&mut list, entry)?;
     }
     Ok(list)

@@ -4,8 +4,7 @@ ghost use Rattle.host_record.specs.Command.{opcode};
 ghost use Rattle.host_model.specs.RecordEntries.{entries_for, entries_owed, land_for, lift_at, lift_for, spare};
 
 use crate::events::are_equal;
-use host_block::Bytes;
-use host_model::{MemEvent, Step, TakenRow, Verdict};
+use host_model::{MemEvent, SharedBytes, Step, TakenRow, Verdict};
 use host_record::{Opcode, Request, Status};
 
 fn is_none(own: &[MemEvent]) -> bool
@@ -44,7 +43,7 @@ fn is_close(event: &MemEvent, i: usize, v: u16) -> bool
     }
 }
 
-fn is_lift(event: &MemEvent, i: usize, r: &Request, n: u32, from: &Bytes) -> bool
+fn is_lift(event: &MemEvent, i: usize, r: &Request, n: u32, from: &SharedBytes) -> bool
     ensures { IsTrue result ↔ (event.now ≡ lift_for i r.now n from.now) }
 {
     let place = r.vmo_offset as u128 + n as u128;
@@ -66,7 +65,7 @@ fn is_lift(event: &MemEvent, i: usize, r: &Request, n: u32, from: &Bytes) -> boo
     }
 }
 
-fn is_landing(event: &MemEvent, i: usize, r: &Request, n: u32, from: &Bytes) -> bool
+fn is_landing(event: &MemEvent, i: usize, r: &Request, n: u32, from: &SharedBytes) -> bool
     ensures { IsTrue result ↔ (event.now ≡ land_for i r.now n from.now) }
 {
     let place = r.vmo_offset as u128 + n as u128;
@@ -99,7 +98,7 @@ fn ends(own: &[MemEvent], i: usize, v: u16) -> bool
 }
 
 // Whether a lift at place n and the record's end are left.
-fn lifts_and_ends(own: &[MemEvent], i: usize, r: &Request, n: u32, bytes: &Bytes) -> bool
+fn lifts_and_ends(own: &[MemEvent], i: usize, r: &Request, n: u32, bytes: &SharedBytes) -> bool
     ensures { IsTrue result ↔ (own.now ≡ lift_for i r.now n bytes.now ∷ MemEvent.Done i r.now.vmoid ∷ []) }
 {
     match own {

@@ -4,7 +4,6 @@ ghost use Rattle.std.specs.List.{cons_option, range_with_len};
 ghost use Rattle.host_model.specs.Lists.{all_with_before, map_with_before};
 ghost use Rattle.host_model.specs.Pages.{found_by, lifts_page, page_at, put_by, shown_bytes};
 
-use crate::events::are_equal;
 use host_block::{Bytes, Oom};
 use host_model::{Event, MemEvent};
 use std::alloc::Global;
@@ -171,12 +170,18 @@ fn all_shown(alloc: Global, log: &[Event]) -> Result<Vec<Bytes>, Oom>
     Ok(list)
 }
 
+fn are_same(a: &Bytes, b: &Bytes) -> bool
+    ensures { IsTrue result ↔ (a.now ≡ b.now) }
+{
+    a.as_slice() == b.as_slice()
+}
+
 fn all_equal(these: &[Bytes], those: &[Bytes]) -> bool
     ensures { IsTrue result ↔ (these.now ≡ those.now) }
 {
     match (these, those) {
         ([], []) => true,
-        ([a, these @ ..], [b, those @ ..]) => are_equal(a, b) && all_equal(these, those),
+        ([a, these @ ..], [b, those @ ..]) => are_same(a, b) && all_equal(these, those),
         _ => false,
     }
 }

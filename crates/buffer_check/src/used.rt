@@ -40,7 +40,7 @@ fn was_closed(closing: Option<usize>, n: usize, before: &[Event]) -> bool
     }
 }
 
-// The place of the entry of the client's next event that has one.
+// Where the client's next entry after these events stands.
 fn next_place_of(alloc: Global, history: &[MemEvent], before: &[Event]) -> Result<usize, Oom>
     ensures { IfOk result (λ n. n ≡ next_place history.now before.now) }
 {

@@ -1,6 +1,6 @@
 // A device over a disk, and steps that make their own room.
 ghost use Rattle.std.specs.Prelude.{◌≡◌, ◌++◌, [], length, IfSome};
-ghost use Rattle.host_device.specs.Entries.{IsOnDisk, IsPiece, entry_of, entries_added};
+ghost use Rattle.host_device.specs.Entries.{IsOnDisk, IsPiece, answer_alone, entry_of, entries_added};
 ghost use Rattle.host_device.specs.Seen.{fixed_of, shape_of, steps_of};
 ghost use Rattle.host_turn.specs.History.{Adds};
 
@@ -8,6 +8,7 @@ use host_block::{BlockSize, Oom, Op};
 use host_cache::Cache;
 use host_device::{Device, StepError};
 use host_io::Disk;
+use host_model::SharedBytes;
 use std::alloc::Global;
 
 /// Attaches a disk and makes a device over it. `None` where that fails.
@@ -33,8 +34,19 @@ pub fn open_device<D: Disk + Drop>(
     }
 }
 
+// The answer of a read, without the entry's bytes.
+fn without_bytes(read: Result<SharedBytes, StepError>) -> Result<(), StepError>
+    ensures { result ≡ answer_alone read }
+{
+    match read {
+        Ok(_) => Ok(()),
+        Err(error) => Err(error),
+    }
+}
+
 /// Makes room for a step, and makes it.
 pub fn make_step<D: Disk>(
+    alloc: Global,
     device: &mut Device<D>,
     hand: u32,
     op: Op,
@@ -48,8 +60,16 @@ pub fn make_step<D: Disk>(
     ensures shape { shape_of device.new ≡ shape_of device.old }
     ensures fixed { fixed_of device.new ≡ fixed_of device.old }
 {
-    match device.make_room() {
-        Ok(()) => device.step(hand, 1, 0, 0, op, b, bytes),
-        Err(Oom) => Err(StepError::Oom),
+    if device.make_room().is_err() {
+        return Err(StepError::Oom);
+    }
+    match op {
+        Op::Read => without_bytes(device.read(hand, 1, 0, 0, b, bytes)),
+        Op::Write => match SharedBytes::copied(alloc, bytes) {
+            Ok(bytes) => device.step(hand, 1, 0, 0, Op::Write, b, bytes),
+            Err(Oom) => Err(StepError::Oom),
+        },
+        Op::Trim => device.step(hand, 1, 0, 0, Op::Trim, b, SharedBytes::empty()),
+        Op::Flush => device.step(hand, 1, 0, 0, Op::Flush, b, SharedBytes::empty()),
     }
 }

@@ -28,7 +28,7 @@ pub fn run_pair<D: Disk + Drop + Send, R: Threads + Wait + Sync>(
         Err(NoBook { state: _ }) => return Err(AllocError),
     };
     let hands = hand_out_all(alloc, &book, seats)?;
-    let seats = work_all(rt, &book, hands, rounds)?;
+    let seats = work_all(rt, alloc, &book, hands, rounds)?;
     Ok(book.close(seats))
 }
 
@@ -56,6 +56,7 @@ fn hand_out_all<D: Disk + Drop>(
 
 fn work_all<D: Disk + Drop + Send, R: Threads + Wait + Sync>(
     rt: &R,
+    alloc: Global,
     book: &Book<Device<D>>,
     hands: Vec<Hand<D>>,
     rounds: u8,
@@ -69,12 +70,13 @@ fn work_all<D: Disk + Drop + Send, R: Threads + Wait + Sync>(
         &|hand: Hand<D>| -> BookSeat<Device<D>>
             requires { seat_book hand.seat ≡ book_id book.now }
             ensures { IsSeatOutside book.entry.now result }
-        { work(rt, book, hand, rounds) },
+        { work(rt, alloc, book, hand, rounds) },
     )
 }
 
 fn work<D: Disk + Drop, R: Wait>(
     rt: &R,
+    alloc: Global,
     book: &Book<Device<D>>,
     mut hand: Hand<D>,
     rounds: u8,
@@ -82,6 +84,6 @@ fn work<D: Disk + Drop, R: Wait>(
     requires { seat_book hand.seat ≡ book_id book.now }
     ensures { IsSeatOutside book.now result }
 {
-    hand.work(rt, book, rounds);
+    hand.work(rt, alloc, book, rounds);
     hand.seat
 }

@@ -9,33 +9,38 @@ use std::alloc::{AllocError, Global};
 use std::test::Fail;
 
 // Writes a block that is made of one byte.
-fn write_fill<D: Disk>(device: &mut Device<D>, b: u64, byte: u8) -> Result<(), StepError>
+fn write_fill<D: Disk>(
+    alloc: Global,
+    device: &mut Device<D>,
+    b: u64,
+    byte: u8,
+) -> Result<(), StepError>
     requires block { b < (shape_of device.old).blocks }
     requires size { (shape_of device.old).size ≡ 512 }
     ensures { shape_of device.new ≡ shape_of device.old }
 {
     let mut from = [byte; 512];
-    make_step(device, 0, Op::Write, b, &mut from)
+    make_step(alloc, device, 0, Op::Write, b, &mut from)
 }
 
 // The first byte of a block.
-fn first_of<D: Disk>(device: &mut Device<D>, b: u64) -> Option<u8>
+fn first_of<D: Disk>(alloc: Global, device: &mut Device<D>, b: u64) -> Option<u8>
     requires block { b < (shape_of device.old).blocks }
     requires size { (shape_of device.old).size ≡ 512 }
     ensures { shape_of device.new ≡ shape_of device.old }
 {
     let mut into = [0u8; 512];
-    match make_step(device, 0, Op::Read, b, &mut into) {
+    match make_step(alloc, device, 0, Op::Read, b, &mut into) {
         Ok(()) => Some(into[0]),
         Err(_) => None,
     }
 }
 
-fn flush<D: Disk>(device: &mut Device<D>) -> Result<(), StepError>
+fn flush<D: Disk>(alloc: Global, device: &mut Device<D>) -> Result<(), StepError>
     ensures { shape_of device.new ≡ shape_of device.old }
 {
     let mut none = [0u8; 0];
-    make_step(device, 0, Op::Flush, 0, &mut none)
+    make_step(alloc, device, 0, Op::Flush, 0, &mut none)
 }
 
 // The first byte of a block on the disk itself.
@@ -60,9 +65,9 @@ fn a_crash_keeps_the_flushed_write(rt: HostRuntime) -> Result<(), Fail> {
     let (mut device, blocks) = open_device(alloc, disk, size, 1).ok_or("device")?;
     assert_eq!(rt; blocks, 64);
     assert_eq!(rt; device.spare(), 1);
-    assert!(rt; write_fill(&mut device, 34, 0xb1).is_ok());
-    assert!(rt; flush(&mut device).is_ok());
-    assert!(rt; write_fill(&mut device, 34, 0xb2).is_ok());
+    assert!(rt; write_fill(alloc, &mut device, 34, 0xb1).is_ok());
+    assert!(rt; flush(alloc, &mut device).is_ok());
+    assert!(rt; write_fill(alloc, &mut device, 34, 0xb2).is_ok());
     let (steps, cache) = device.into_parts();
     assert_eq!(rt; steps.len(), 3);
     assert!(rt; steps.as_slice().iter().all(|step| !step.faulted));
@@ -88,16 +93,16 @@ fn a_write_fails_inside_a_flush(rt: HostRuntime) -> Result<(), Fail> {
     let disk = MemDisk::new(alloc, vec![in alloc; 99u8; 32768]?, fails);
     let (mut device, blocks) = open_device(alloc, disk, size, 0).ok_or("device")?;
     assert_eq!(rt; blocks, 64);
-    assert!(rt; write_fill(&mut device, 34, 0xc1).is_ok());
-    assert!(rt; write_fill(&mut device, 35, 0xc1).is_ok());
-    assert!(rt; write_fill(&mut device, 36, 0xc1).is_ok());
-    assert!(rt; write_fill(&mut device, 37, 0xc1).is_ok());
-    assert_eq!(rt; flush(&mut device), Err(StepError::Fault));
-    assert_eq!(rt; first_of(&mut device, 34), Some(0xc1));
-    assert_eq!(rt; first_of(&mut device, 35), Some(0xc1));
-    assert_eq!(rt; first_of(&mut device, 36), Some(0xc1));
-    assert_eq!(rt; first_of(&mut device, 37), Some(0xc1));
-    assert!(rt; flush(&mut device).is_ok());
+    assert!(rt; write_fill(alloc, &mut device, 34, 0xc1).is_ok());
+    assert!(rt; write_fill(alloc, &mut device, 35, 0xc1).is_ok());
+    assert!(rt; write_fill(alloc, &mut device, 36, 0xc1).is_ok());
+    assert!(rt; write_fill(alloc, &mut device, 37, 0xc1).is_ok());
+    assert_eq!(rt; flush(alloc, &mut device), Err(StepError::Fault));
+    assert_eq!(rt; first_of(alloc, &mut device, 34), Some(0xc1));
+    assert_eq!(rt; first_of(alloc, &mut device, 35), Some(0xc1));
+    assert_eq!(rt; first_of(alloc, &mut device, 36), Some(0xc1));
+    assert_eq!(rt; first_of(alloc, &mut device, 37), Some(0xc1));
+    assert!(rt; flush(alloc, &mut device).is_ok());
     let (steps, cache) = device.into_parts();
     assert_eq!(rt; steps.len(), 10);
     assert_eq!(rt;
@@ -214,7 +219,7 @@ fn allowed_after(alloc: Global, count: u32) -> Result<u32, Fail> {
     if size.bytes() != 512 || blocks != 40 {
         return Ok(0);
     }
-    let tally = play(&mut device, &mut fills, 1, count);
+    let tally = play(alloc, &mut device, &mut fills, 1, count);
     let (steps, cache) = device.into_parts();
     if tally.other != 0 || steps.len() != count as u64 {
         return Ok(0);

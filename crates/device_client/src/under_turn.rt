@@ -9,11 +9,13 @@ use host_block::Op;
 use host_device::{Device, StepError};
 use host_io::Disk;
 use host_turn::{Book, BookSeat};
+use std::alloc::Global;
 use std::sync::Wait;
 
 /// Enters the device, makes a step, and leaves. The step's entry becomes the last of the hand's own.
 pub fn step_at<D: Disk, R: Wait>(
     rt: &R,
+    alloc: Global,
     book: &Book<Device<D>>,
     seat: &mut BookSeat<Device<D>>,
     hand: u32,
@@ -29,7 +31,7 @@ pub fn step_at<D: Disk, R: Wait>(
         ≡ own_entries (λ step. step.hand) seat.old ++ entries_added result (entry_of hand 1 0 0 op b bytes.new) }
 {
     let mut device = book.enter(rt, seat);
-    let done = make_step(&mut device, hand, op, b, bytes);
+    let done = make_step(alloc, &mut device, hand, op, b, bytes);
     book.leave(seat, device);
     done
 }

@@ -3,8 +3,8 @@ ghost use Rattle.std.specs.Prelude.{◌≡◌, ◌↔◌, ◌++◌, IsTrue, filt
 ghost use Rattle.host_report.specs.Lawful.{closing_flush, closing_steps, is_of_sessions};
 
 use buffer_check::are_equal;
-use host_block::{Bytes, Oom, Op};
-use host_model::Step;
+use host_block::{Oom, Op};
+use host_model::{SharedBytes, Step};
 use host_report::Closing;
 use record_check::push_if;
 use std::alloc::Global;
@@ -51,12 +51,12 @@ fn of_sessions(alloc: Global, steps: &[Step], n: usize) -> Result<Vec<Step>, Oom
 {
     let mut list = Vec::new(alloc);
     for step in steps {
-        push_if(&mut list, alloc, step, is_of_one(step, n))?;
+        push_if(&mut list, step, is_of_one(step, n))?;
     }
     Ok(list)
 }
 
-fn flush(alloc: Global, faulted: bool) -> Step
+fn flush(faulted: bool) -> Step
     ensures { result ≡ closing_flush faulted }
 {
     Step {
@@ -66,17 +66,17 @@ fn flush(alloc: Global, faulted: bool) -> Step
         k: 0,
         op: Op::Flush,
         block: 0,
-        bytes: Bytes::empty(alloc),
+        bytes: SharedBytes::empty(),
         faulted,
     }
 }
 
-fn push_closing(list: &mut Vec<Step>, alloc: Global, closing: Closing) -> Result<(), Oom>
+fn push_closing(list: &mut Vec<Step>, closing: Closing) -> Result<(), Oom>
     ensures { OnOk result (list.new.items ≡ list.old.items ++ closing_steps closing) }
 {
     let step = match closing {
-        Closing::Good => flush(alloc, false),
-        Closing::Fault => flush(alloc, true),
+        Closing::Good => flush(false),
+        Closing::Fault => flush(true),
         Closing::Cut => return Ok(()),
         Closing::NoMemory => return Ok(()),
     };
@@ -96,6 +96,6 @@ pub fn ends_with_closing(
     ensures { IfOk result (λ b. IsTrue b ↔ (steps.now ≡ filter (is_of_sessions n) steps.now ++ closing_steps closing)) }
 {
     let mut expected = of_sessions(alloc, steps, n)?;
-    push_closing(&mut expected, alloc, closing)?;
+    push_closing(&mut expected, closing)?;
     Ok(are_same(steps, &expected))
 }

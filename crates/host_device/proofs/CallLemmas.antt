@@ -1,17 +1,9 @@
 -- How the calls of a step end.
-use Rattle.std.proofs.Common.{◌≡◌, ◌≢◌, inr, Bool, true, false, Result, Ok, Err, sym, ◌∙◌}
+use Rattle.std.proofs.Common.{◌≡◌, ◌≢◌, Bool, true, false, Result, Ok, Err, sym, ◌∙◌}
 use Rattle.std.specs.Prelude.{IsErr}
 use Rattle.host_block.specs.Disk.{Outcome, failed, refused}
-use Rattle.host_io.specs.declared.disk.Disk as disk
-use Rattle.host_cache.specs.Calls.{Rule}
-use Rattle.host_cache.specs.Seen.{Runs}
-use Rattle.host_cache.specs.declared.cache.Cache.{Cache}
 use Rattle.host_device.specs.declared.cache_calls.Stored.{Stored}
 use Rattle.host_device.specs.Answers.{EndsAs, answer_of, answered, ended}
-use Rattle.host_device.specs.Calls.{OrRefuses}
-
-pub or_refuses : {D : Type 0} {g : disk.Ghosts D} (rule : Rule) (o : Outcome) (old new : Cache D g) → Runs rule old o new → Runs (OrRefuses rule) old o new
-or_refuses rule o old new p = record { calls = p.calls; ruled = inr p.ruled; made = p.made }
 
 not_failed : (o : Outcome) → o ≡ refused → o ≢ failed
 not_failed o is fails = let wrong : refused ≡ failed = sym is ∙ fails in cc

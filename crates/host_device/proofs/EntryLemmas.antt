@@ -1,12 +1,14 @@
 -- A step that was entered.
-use Rattle.std.proofs.Common.{◌≡◌, ℕ, Bool, true, false, Result, List, [], ◌∷◌, refl, sym, ◌∙◌, ap}
+use Rattle.std.proofs.Common.{◌≡◌, ℕ, Bool, true, false, Result, Ok, Err, List, [], ◌∷◌, refl, sym, ◌∙◌, ap}
+use Rattle.std.specs.Prelude.{IfOk}
 use Rattle.host_block.specs.declared.op.Op.{Op}
+use Rattle.host_block.specs.declared.op.Op.TheVariants.{Read}
 use Rattle.host_model.specs.declared.step.Step.{Step}
 use Rattle.host_device.specs.declared.cache_calls.Stored.{Stored}
 use Rattle.host_device.specs.declared.error.StepError.{StepError}
 use Rattle.host_device.specs.declared.steps.Owner.{Owner}
 use Rattle.host_device.specs.Answers.{answered, step_by, entry_for}
-use Rattle.host_device.specs.Entries.{entry_bytes, entries_added}
+use Rattle.host_device.specs.Entries.{answer_alone, entry_bytes, entries_added}
 
 added_is : (faulted : Bool) (entry : Bool → Step) → entries_added (answered faulted) entry ≡ entry faulted ∷ []
 added_is true entry = refl
@@ -19,3 +21,13 @@ entered owner op b given stored answer bytes is =
     ap (λ (x : List ℕ). step_by owner op b (record { bytes = x; faulted = stored.faulted }) ∷ []) bytes
     ∙ sym (added_is stored.faulted (entry_for owner op b given))
     ∙ ap (λ (a : Result Unit StepError). entries_added a (entry_for owner op b given)) (sym is)
+
+unfaulted : (into : List ℕ) (faulted : Bool) → ◌≡◌ {A = Result Unit StepError} (Ok tt) (answered faulted) → entry_bytes Read into faulted ≡ into
+unfaulted into true is = cc
+unfaulted into false is = refl
+
+-- a read that didn't fail hands out what it read
+pub given_bytes : (into given : List ℕ) (stored : Stored) (r : Result (List ℕ) StepError) → stored.bytes ≡ entry_bytes Read into stored.faulted → given ≡ stored.bytes
+    → answer_alone r ≡ answered stored.faulted → IfOk r (λ bytes. bytes ≡ given) → IfOk r (λ bytes. bytes ≡ into)
+given_bytes into given stored (Err e) entered same answer is = tt
+given_bytes into given stored (Ok bytes) entered same answer is = is ∙ same ∙ entered ∙ unfaulted into stored.faulted answer

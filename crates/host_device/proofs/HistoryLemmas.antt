@@ -15,7 +15,7 @@ use Rattle.host_cache.specs.Held.{Held}
 use Rattle.host_cache.specs.Calls.{IsFlush}
 use Rattle.host_cache.specs.Laws.{IsOver}
 use Rattle.host_cache.proofs.LawLemmas.{read_survives_proof, write_survives_proof, flush_survives_proof, flush_is_kept_proof, last_keeps}
-use Rattle.host_device.specs.Calls.{RefusesAtOnce, IsCacheCall}
+use Rattle.host_device.specs.Calls.{IsCacheCall}
 use Rattle.host_device.specs.Laws.{CrashInsideStep, CrashAfterFlush}
 use Rattle.host_device.proofs.CrashLemmas.{crashes_along}
 
@@ -54,16 +54,10 @@ module _ (image : List (List ℕ)) (history : List Change) where
 
   -- ---- the calls of a step
 
-  refused_survives : (size : ℕ) (old new : Held) (calls : List DiskCall) (outcome : Outcome) (s t : DiskState) → IsOver image history size old s → RefusesAtOnce old calls outcome new → LeadAll calls s t → LeadThrough (Keeps image history) calls s t
-  refused_survives size old new calls outcome s t over rule lead =
-      let none : LeadAll [] s t = subst (λ (cs : List DiskCall). LeadAll cs s t) rule.calls_are lead in
-      subst (λ (cs : List DiskCall). LeadThrough (Keeps image history) cs s t) (sym rule.calls_are) (over.keeps, none)
-
   pub step_survives : (op : Op) (size b : ℕ) (bytes : List ℕ) (old new : Held) (calls : List DiskCall) (outcome : Outcome) (s t : DiskState)
       → IsOver image history size old s → IsCacheCall op (length image) size b bytes old calls outcome new → LeadAll calls s t → LeadThrough (Keeps image history) calls s t
   step_survives Read size b bytes old new calls outcome s t over rule lead = read_survives_proof image b bytes history size old new calls outcome s t over rule lead
-  step_survives Write size b bytes old new calls outcome s t over (inl refuses) lead = refused_survives size old new calls outcome s t over refuses lead
-  step_survives Write size b bytes old new calls outcome s t over (inr rule) lead = write_survives_proof image b bytes history size old new calls outcome s t over rule lead
+  step_survives Write size b bytes old new calls outcome s t over rule lead = write_survives_proof image b bytes history size old new calls outcome s t over rule lead
   step_survives Trim size b bytes old new calls outcome s t over rule lead = write_survives_proof image b (replicate size 0) history size old new calls outcome s t over rule lead
   step_survives Flush size b bytes old new calls outcome s t over rule lead = flush_survives_proof image history size old new calls outcome s t over rule lead
 

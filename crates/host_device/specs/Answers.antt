@@ -4,6 +4,7 @@ use Rattle.host_block.specs.declared.op.Op.{Op}
 use Rattle.host_block.specs.Changes.{Change}
 use Rattle.host_block.specs.Disk.{Outcome, done, failed}
 use Rattle.host_model.specs.declared.step.Step.{Step}
+use Rattle.host_device.specs.declared.cache_calls.BlockRead.{BlockRead}
 use Rattle.host_device.specs.declared.cache_calls.Stored.{Stored}
 use Rattle.host_device.specs.declared.steps.Owner.{Owner}
 use Rattle.host_device.specs.Entries.{entry_of}
@@ -30,6 +31,11 @@ answered faulted = if faulted then Err Fault else Ok tt
 abbrev pub answer_of : {E : Type 0} → Result Stored E → Result Unit StepError
 answer_of (Ok stored) = answered stored.faulted
 answer_of (Err e) = Err Oom
+
+-- what is entered of a read
+abbrev pub stored_of : {E : Type 0} → Result BlockRead E → Result Stored E
+stored_of (Ok read) = Ok read.stored
+stored_of (Err e) = Err e
 
 abbrev pub change_by : Op → ℕ → Stored → Change
 change_by op b stored = record { op = op; block = b; bytes = stored.bytes; faulted = stored.faulted }

@@ -32,6 +32,11 @@ abbrev pub entry_of : ℕ → ℕ → ℕ → ℕ → Op → ℕ → List ℕ �
 entry_of hand session index k op b bytes faulted =
     record { hand = hand; session = session; index = index; k = k; op = op; block = b; bytes = entry_bytes op bytes faulted; faulted = faulted }
 
+-- the answer of a read without the bytes that it gave
+abbrev pub answer_alone : {A : Type 0} → Result A StepError → Result Unit StepError
+answer_alone (Ok x) = Ok tt
+answer_alone (Err e) = Err e
+
 -- the entries that a step adds, by its answer: one, but none for want of memory
 abbrev pub entries_added : Result Unit StepError → (Bool → Step) → List Step
 entries_added (Ok x) entry = entry false ∷ []

@@ -30,7 +30,7 @@ module _ {D : Type 0} {g : disk.Ghosts D} where
   abbrev pub shape_of : Device D g → Shape
   shape_of device = g.shape (disk_of device)
 
-  -- the disk as it was when the device was made
+  -- the disk that the device began with
   abbrev pub opening_of : Device D g → D
   opening_of device = device.opening.value
 
@@ -46,7 +46,7 @@ module _ {D : Type 0} {g : disk.Ghosts D} where
   abbrev pub history_of : Device D g → List Change
   history_of device = changes_of device.steps.items
 
-  -- the image as it was when the device was made, where the disk tells
+  -- the image that the device began with, where the disk tells
   abbrev pub image_of : Device D g → List (List ℕ)
   image_of device = (g.state device.opening.value).durable
 

@@ -5,22 +5,30 @@ ghost use Rattle.host_block.specs.Disk.{refused};
 ghost use Rattle.host_block.specs.Changes.{is_read};
 ghost use Rattle.host_cache.specs.Outcomes.{outcome_of};
 ghost use Rattle.host_cache.specs.Seen.{shape_of, HasFaulted};
-ghost use Rattle.host_device.specs.Answers.{ended, answer_of, change_by, changes_by};
+ghost use Rattle.host_device.specs.Answers.{ended, answer_of, change_by, changes_by, stored_of};
 ghost use Rattle.host_device.specs.CacheSteps.{CallsCache, HasContentBy, GivesContent};
 ghost use Rattle.host_device.specs.Calls.{IsCacheCall};
 ghost use Rattle.host_device.specs.Entries.{IsOnDisk, IsPiece, entry_bytes};
 
 use crate::error::StepError;
-use host_block::{Bytes, Oom, Op};
+use host_block::{Oom, Op};
 use host_cache::{Cache, CacheError};
 use host_io::Disk;
+use host_model::SharedBytes;
 use std::alloc::Global;
 
 /// What is entered of a call that was made.
 #[derive(Drop)]
 pub struct Stored {
-    pub bytes: Bytes,
+    pub bytes: SharedBytes,
     pub faulted: bool,
+}
+
+/// What is entered of a read, and the same bytes for who asked for them.
+#[derive(Drop)]
+pub struct BlockRead {
+    pub stored: Stored,
+    pub bytes: SharedBytes,
 }
 
 // Whether a call of the cache failed, where it wasn't refused memory.
@@ -34,54 +42,61 @@ fn faulted_by(answer: Result<(), CacheError>) -> Result<bool, Oom>
     }
 }
 
-// What is entered of a read.
-fn bytes_read(alloc: Global, faulted: bool, bytes: &[u8]) -> Result<Bytes, Oom>
-    ensures stored { IfOk result (λ stored. stored ≡ entry_bytes Read bytes.now faulted) }
+// The bytes that are entered of a read, twice.
+fn bytes_read(alloc: Global, faulted: bool, bytes: &[u8]) -> Result<(SharedBytes, SharedBytes), Oom>
+    ensures entered { IfOk result (λ both. both.0 ≡ entry_bytes Read bytes.now faulted) }
+    ensures given { IfOk result (λ both. both.1 ≡ both.0) }
     ensures refused { OnErr result (faulted ≡ false) }
 {
     if faulted {
-        Ok(Bytes::empty(alloc))
-    } else {
-        Bytes::copied(alloc, bytes)
+        return Ok((SharedBytes::empty(), SharedBytes::empty()));
     }
+    let entered = SharedBytes::copied(alloc, bytes)?;
+    let given = entered.share()?;
+    Ok((entered, given))
 }
 
-fn read<D: Disk>(
+/// Reads block `b` into `into`.
+pub fn read<D: Disk>(
     alloc: Global,
     cache: &mut Cache<D>,
     b: u64,
     into: &mut [u8],
-) -> Result<Stored, Oom>
+) -> Result<BlockRead, Oom>
     requires block { b < (shape_of cache.old).blocks }
     requires piece { length into.old ≡ (shape_of cache.old).size }
-    ensures calls { CallsCache (IsCacheCall Read (shape_of cache.old).blocks (shape_of cache.old).size b into.new) cache.old (answer_of result) cache.new }
-    ensures bytes { IfOk result (λ stored. stored.bytes ≡ entry_bytes Read into.new stored.faulted) }
-    ensures gives { IfOk result (λ stored. GivesContent (change_by Read b stored) cache.old) }
-    ensures content { HasContentBy (changes_by Read b result) cache.old cache.new }
+    ensures calls { CallsCache (IsCacheCall Read (shape_of cache.old).blocks (shape_of cache.old).size b into.new) cache.old (answer_of (stored_of result)) cache.new }
+    ensures bytes { IfOk result (λ read. read.stored.bytes ≡ entry_bytes Read into.new read.stored.faulted) }
+    ensures given { IfOk result (λ read. read.bytes ≡ read.stored.bytes) }
+    ensures gives { IfOk result (λ read. GivesContent (change_by Read b read.stored) cache.old) }
+    ensures content { HasContentBy (changes_by Read b (stored_of result)) cache.old cache.new }
     ensures shape { shape_of cache.new ≡ shape_of cache.old }
-    ensures fault { IsErrOf (answer_of result) StepError.Fault → HasFaulted cache.old cache.new }
+    ensures fault { IsErrOf (answer_of (stored_of result)) StepError.Fault → HasFaulted cache.old cache.new }
 {
     let faulted = faulted_by(cache.read(b, into))?;
-    let bytes = bytes_read(alloc, faulted, into)?;
-    Ok(Stored { bytes, faulted })
+    let (entered, bytes) = bytes_read(alloc, faulted, into)?;
+    let stored = Stored {
+        bytes: entered,
+        faulted,
+    };
+    Ok(BlockRead { stored, bytes })
 }
 
-fn write<D: Disk>(alloc: Global, cache: &mut Cache<D>, b: u64, from: &[u8]) -> Result<Stored, Oom>
+fn write<D: Disk>(cache: &mut Cache<D>, b: u64, bytes: SharedBytes) -> Result<Stored, Oom>
     requires block { b < (shape_of cache.old).blocks }
-    requires piece { length from.now ≡ (shape_of cache.old).size }
-    ensures calls { CallsCache (IsCacheCall Write (shape_of cache.old).blocks (shape_of cache.old).size b from.now) cache.old (answer_of result) cache.new }
-    ensures bytes { IfOk result (λ stored. stored.bytes ≡ entry_bytes Write from.now stored.faulted) }
+    requires piece { length bytes ≡ (shape_of cache.old).size }
+    ensures calls { CallsCache (IsCacheCall Write (shape_of cache.old).blocks (shape_of cache.old).size b bytes) cache.old (answer_of result) cache.new }
+    ensures bytes { IfOk result (λ stored. stored.bytes ≡ entry_bytes Write bytes stored.faulted) }
     ensures gives { IfOk result (λ stored. GivesContent (change_by Write b stored) cache.old) }
     ensures content { HasContentBy (changes_by Write b result) cache.old cache.new }
     ensures shape { shape_of cache.new ≡ shape_of cache.old }
     ensures fault { IsErrOf (answer_of result) StepError.Fault → HasFaulted cache.old cache.new }
 {
-    let bytes = Bytes::copied(alloc, from)?;
-    let faulted = faulted_by(cache.write(b, from))?;
+    let faulted = faulted_by(cache.write(b, bytes.as_slice()))?;
     Ok(Stored { bytes, faulted })
 }
 
-fn trim<D: Disk>(alloc: Global, cache: &mut Cache<D>, b: u64) -> Result<Stored, Oom>
+fn trim<D: Disk>(cache: &mut Cache<D>, b: u64) -> Result<Stored, Oom>
     requires block { b < (shape_of cache.old).blocks }
     ensures calls { (bytes : List ℕ) → CallsCache (IsCacheCall Trim (shape_of cache.old).blocks (shape_of cache.old).size b bytes) cache.old (answer_of result) cache.new }
     ensures bytes { (bytes : List ℕ) → IfOk result (λ stored. stored.bytes ≡ entry_bytes Trim bytes stored.faulted) }
@@ -91,11 +106,11 @@ fn trim<D: Disk>(alloc: Global, cache: &mut Cache<D>, b: u64) -> Result<Stored, 
     ensures fault { IsErrOf (answer_of result) StepError.Fault → HasFaulted cache.old cache.new }
 {
     let faulted = faulted_by(cache.trim(b))?;
-    let bytes = Bytes::empty(alloc);
+    let bytes = SharedBytes::empty();
     Ok(Stored { bytes, faulted })
 }
 
-fn flush<D: Disk>(alloc: Global, cache: &mut Cache<D>) -> Result<Stored, Oom>
+fn flush<D: Disk>(cache: &mut Cache<D>) -> Result<Stored, Oom>
     ensures calls { (b : ℕ) (bytes : List ℕ) → CallsCache (IsCacheCall Flush (shape_of cache.old).blocks (shape_of cache.old).size b bytes) cache.old (answer_of result) cache.new }
     ensures bytes { (bytes : List ℕ) → IfOk result (λ stored. stored.bytes ≡ entry_bytes Flush bytes stored.faulted) }
     ensures gives { (b : ℕ) → IfOk result (λ stored. GivesContent (change_by Flush b stored) cache.old) }
@@ -104,32 +119,31 @@ fn flush<D: Disk>(alloc: Global, cache: &mut Cache<D>) -> Result<Stored, Oom>
     ensures fault { IsErrOf (answer_of result) StepError.Fault → HasFaulted cache.old cache.new }
 {
     let faulted = faulted_by(cache.flush())?;
-    let bytes = Bytes::empty(alloc);
+    let bytes = SharedBytes::empty();
     Ok(Stored { bytes, faulted })
 }
 
-/// Makes the call that the op names, of block `b` with these bytes.
+/// Makes the call that the op names, no read, of block `b` with these bytes.
 pub fn call_cache<D: Disk>(
-    alloc: Global,
     cache: &mut Cache<D>,
     op: Op,
     b: u64,
-    bytes: &mut [u8],
+    bytes: SharedBytes,
 ) -> Result<Stored, Oom>
+    requires kind { is_read op ≡ false }
     requires block { IsOnDisk op b (shape_of cache.old).blocks }
-    requires piece { IsPiece op (length bytes.old) (shape_of cache.old).size }
-    ensures calls { CallsCache (IsCacheCall op (shape_of cache.old).blocks (shape_of cache.old).size b bytes.new) cache.old (answer_of result) cache.new }
-    ensures bytes { IfOk result (λ stored. stored.bytes ≡ entry_bytes op bytes.new stored.faulted) }
-    ensures given { is_read op ≡ false → bytes.new ≡ bytes.old }
+    requires piece { IsPiece op (length bytes) (shape_of cache.old).size }
+    ensures calls { CallsCache (IsCacheCall op (shape_of cache.old).blocks (shape_of cache.old).size b bytes) cache.old (answer_of result) cache.new }
+    ensures bytes { IfOk result (λ stored. stored.bytes ≡ entry_bytes op bytes stored.faulted) }
     ensures gives { IfOk result (λ stored. GivesContent (change_by op b stored) cache.old) }
     ensures content { HasContentBy (changes_by op b result) cache.old cache.new }
     ensures shape { shape_of cache.new ≡ shape_of cache.old }
     ensures fault { IsErrOf (answer_of result) StepError.Fault → HasFaulted cache.old cache.new }
 {
     match op {
-        Op::Read => read(alloc, cache, b, bytes),
-        Op::Write => write(alloc, cache, b, bytes),
-        Op::Trim => trim(alloc, cache, b),
-        Op::Flush => flush(alloc, cache),
+        Op::Read => unreachable!(),
+        Op::Write => write(cache, b, bytes),
+        Op::Trim => trim(cache, b),
+        Op::Flush => flush(cache),
     }
 }

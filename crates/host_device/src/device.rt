@@ -7,11 +7,11 @@ ghost use Rattle.host_device.specs.Faults.{RoseBy, faulted_count};
 ghost use Rattle.host_model.specs.Changes.{changes_of};
 
 use crate::error::StepError;
-use crate::steps::{Owner, make_step};
+use crate::steps::{Owner, make_read, make_step};
 use host_block::{Oom, Op, ReservedList};
 use host_cache::Cache;
 use host_io::Disk;
-use host_model::Steps;
+use host_model::{SharedBytes, Steps};
 use std::alloc::Global;
 use std::snapshot::Snapshot;
 
@@ -27,7 +27,7 @@ pub struct Device<D: Disk> {
     pub(crate) alloc: Global,
     pub(crate) cache: Cache<D>,
     pub(crate) steps: Steps,
-    // The disk as it was when the device was made.
+    // The disk as `new` found it.
     pub(crate) opening: Snapshot<D>,
     ghost same_shape: { D.shape (disk_under cache) ≡ D.shape opening.value },
     ghost same_opening: { D.opening (disk_under cache) ≡ D.opening opening.value },
@@ -39,14 +39,14 @@ pub struct Device<D: Disk> {
 }
 
 impl<D: Disk> Device<D> {
-    ghost use Rattle.std.specs.Prelude.{[], ◌++◌, ◌≤◌, false, length, None, OnOk, IfOk, IfErr, IsErrOf};
-    ghost use Rattle.host_block.specs.declared.op.Op.TheVariants.{Flush};
+    ghost use Rattle.std.specs.Prelude.{[], ◌++◌, ◌<◌, ◌≤◌, false, length, None, OnOk, IfOk, IfErr, IsErrOf};
+    ghost use Rattle.host_block.specs.declared.op.Op.TheVariants.{Flush, Read};
     ghost use Rattle.host_block.specs.Changes.{is_read};
     ghost use Rattle.host_block.specs.Room.{spare_of};
     ghost use Rattle.host_cache.specs.Seen.{held_of};
     ghost use Rattle.host_io.specs.Causes.{Rose};
     ghost use Rattle.host_turn.specs.History.{Adds};
-    ghost use Rattle.host_device.specs.Entries.{IsOnDisk, IsPiece, entry_of, entries_added};
+    ghost use Rattle.host_device.specs.Entries.{IsOnDisk, IsPiece, answer_alone, entry_of, entries_added};
     ghost use Rattle.host_device.specs.Seen.{cache_of, disk_of, shape_of, opening_of, fixed_of, steps_of, KeepsHistory, IsStep, LosesNothing};
 
     /// A device over an empty cache whose disk has nothing pending, with room for so many entries.
@@ -97,26 +97,24 @@ impl<D: Disk> Device<D> {
         self.steps.reserve(1)
     }
 
-    /// Makes step `k` of record `index` of a session and enters it. `b` is a block of the image, and 0 for a flush. A read
-    /// puts one block into `bytes`, of which nothing is known after an error; a write takes one from there.
-    pub fn step(
+    /// Reads block `b` of the image into `into`, as step `k` of record `index` of a session, and enters that. It hands out
+    /// the entry's bytes. After an error nothing is known of `into`.
+    pub fn read(
         &mut self,
         hand: u32,
         session: u32,
         index: u32,
         k: u32,
-        op: Op,
         b: u64,
-        bytes: &mut [u8],
-    ) -> Result<(), StepError>
+        into: &mut [u8],
+    ) -> Result<SharedBytes, StepError>
         requires room { 1 ≤ spare_of (steps_of self.old) }
-        requires block { IsOnDisk op b (shape_of self.old).blocks }
-        requires piece { IsPiece op (length bytes.old) (shape_of self.old).size }
-        ensures entry { steps_of self.new ≡ record (steps_of self.old) { items = (steps_of self.old).items ++ entries_added result (entry_of hand session index k op b bytes.new) } }
+        requires block { b < (shape_of self.old).blocks }
+        requires piece { length into.old ≡ (shape_of self.old).size }
+        ensures bytes { IfOk result (λ bytes. bytes ≡ into.new) }
+        ensures entry { steps_of self.new ≡ record (steps_of self.old) { items = (steps_of self.old).items ++ entries_added (answer_alone result) (entry_of hand session index k Read b into.new) } }
         ensures adds { Adds (λ step. step.hand) hand (steps_of self.old).items (steps_of self.new).items }
-        ensures calls { IsStep op b bytes.new self.old result self.new }
-        ensures flushed { OnOk result (op ≡ Flush → LosesNothing self.new) }
-        ensures given { is_read op ≡ false → bytes.new ≡ bytes.old }
+        ensures calls { IsStep Read b into.new self.old (answer_alone result) self.new }
         ensures fault { IsErrOf result StepError.Fault → Rose (D.counts (disk_of self.old)).faults (D.counts (disk_of self.new)).faults }
         ensures shape { shape_of self.new ≡ shape_of self.old }
         ensures fixed { fixed_of self.new ≡ fixed_of self.old }
@@ -127,15 +125,40 @@ impl<D: Disk> Device<D> {
             index,
             k,
         };
-        make_step(
-            self.alloc,
-            &mut self.cache,
-            &mut self.steps,
-            owner,
-            op,
-            b,
-            bytes,
-        )
+        make_read(self.alloc, &mut self.cache, &mut self.steps, owner, b, into)
+    }
+
+    /// Makes step `k` of record `index` of a session, no read, and enters it. `b` is a block of the image, and 0 for a
+    /// flush. The bytes of a write become the entry's.
+    pub fn step(
+        &mut self,
+        hand: u32,
+        session: u32,
+        index: u32,
+        k: u32,
+        op: Op,
+        b: u64,
+        bytes: SharedBytes,
+    ) -> Result<(), StepError>
+        requires room { 1 ≤ spare_of (steps_of self.old) }
+        requires kind { is_read op ≡ false }
+        requires block { IsOnDisk op b (shape_of self.old).blocks }
+        requires piece { IsPiece op (length bytes) (shape_of self.old).size }
+        ensures entry { steps_of self.new ≡ record (steps_of self.old) { items = (steps_of self.old).items ++ entries_added result (entry_of hand session index k op b bytes) } }
+        ensures adds { Adds (λ step. step.hand) hand (steps_of self.old).items (steps_of self.new).items }
+        ensures calls { IsStep op b bytes self.old result self.new }
+        ensures flushed { OnOk result (op ≡ Flush → LosesNothing self.new) }
+        ensures fault { IsErrOf result StepError.Fault → Rose (D.counts (disk_of self.old)).faults (D.counts (disk_of self.new)).faults }
+        ensures shape { shape_of self.new ≡ shape_of self.old }
+        ensures fixed { fixed_of self.new ≡ fixed_of self.old }
+    {
+        let owner = Owner {
+            hand,
+            session,
+            index,
+            k,
+        };
+        make_step(&mut self.cache, &mut self.steps, owner, op, b, bytes)
     }
 
     /// The history, and the cache over the disk as it is.

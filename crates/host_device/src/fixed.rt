@@ -1,7 +1,7 @@
 //! The fixed part of a device.
 use std::snapshot::Snapshot;
 
-/// What stays of a device: the number and the size of its blocks, and the disk as it was when the device was made.
+/// What never changes in a device: how many blocks it has, their size in bytes, and the disk as `Device::new` found it.
 pub struct DeviceFixed<D> {
     pub blocks: u64,
     pub size: u32,

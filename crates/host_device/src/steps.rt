@@ -1,19 +1,20 @@
 // A step of a cache, and its entry.
-ghost use Rattle.std.specs.Prelude.{◌≡◌, ◌+◌, ◌<◌, ◌++◌, [], ◌∷◌, false, length, IsErrOf};
+ghost use Rattle.std.specs.Prelude.{◌≡◌, ◌+◌, ◌<◌, ◌++◌, [], ◌∷◌, false, length, IfOk, IsErrOf};
+ghost use Rattle.host_block.specs.declared.op.Op.TheVariants.{Read};
 ghost use Rattle.host_block.specs.Changes.{is_read};
 ghost use Rattle.host_cache.specs.Seen.{shape_of, HasFaulted};
 ghost use Rattle.host_model.specs.Changes.{changes_of};
 ghost use Rattle.host_device.specs.Answers.{answered, step_by, entry_for};
 ghost use Rattle.host_device.specs.CacheSteps.{CallsCache, HasContentBy, AreGiven};
 ghost use Rattle.host_device.specs.Calls.{IsCacheCall};
-ghost use Rattle.host_device.specs.Entries.{IsOnDisk, IsPiece, entries_added};
+ghost use Rattle.host_device.specs.Entries.{IsOnDisk, IsPiece, answer_alone, entries_added};
 
-use crate::cache_calls::{Stored, call_cache};
+use crate::cache_calls::{BlockRead, Stored, call_cache, read};
 use crate::error::StepError;
 use host_block::{Oom, Op};
 use host_cache::Cache;
 use host_io::Disk;
-use host_model::{Step, Steps};
+use host_model::{SharedBytes, Step, Steps};
 use std::alloc::Global;
 
 /// For whom a step is made.
@@ -25,30 +26,70 @@ pub struct Owner {
     pub k: u32,
 }
 
-/// Makes the call of the cache that the op names, and enters it.
+/// Makes the call of the cache that the op names, no read, and enters it.
 pub fn make_step<D: Disk>(
-    alloc: Global,
     cache: &mut Cache<D>,
     steps: &mut Steps,
     owner: Owner,
     op: Op,
     b: u64,
-    bytes: &mut [u8],
+    bytes: SharedBytes,
 ) -> Result<(), StepError>
     requires room { length steps.old.items < steps.old.room }
+    requires kind { is_read op ≡ false }
     requires block { IsOnDisk op b (shape_of cache.old).blocks }
-    requires piece { IsPiece op (length bytes.old) (shape_of cache.old).size }
-    ensures entry { steps.new ≡ record steps.old { items = steps.old.items ++ entries_added result (entry_for owner op b bytes.new) } }
-    ensures calls { CallsCache (IsCacheCall op (shape_of cache.old).blocks (shape_of cache.old).size b bytes.new) cache.old result cache.new }
-    ensures given { is_read op ≡ false → bytes.new ≡ bytes.old }
-    ensures gives { AreGiven (changes_of (entries_added result (entry_for owner op b bytes.new))) cache.old }
-    ensures content { HasContentBy (changes_of (entries_added result (entry_for owner op b bytes.new))) cache.old cache.new }
+    requires piece { IsPiece op (length bytes) (shape_of cache.old).size }
+    ensures entry { steps.new ≡ record steps.old { items = steps.old.items ++ entries_added result (entry_for owner op b bytes) } }
+    ensures calls { CallsCache (IsCacheCall op (shape_of cache.old).blocks (shape_of cache.old).size b bytes) cache.old result cache.new }
+    ensures gives { AreGiven (changes_of (entries_added result (entry_for owner op b bytes))) cache.old }
+    ensures content { HasContentBy (changes_of (entries_added result (entry_for owner op b bytes))) cache.old cache.new }
     ensures shape { shape_of cache.new ≡ shape_of cache.old }
     ensures fault { IsErrOf result StepError.Fault → HasFaulted cache.old cache.new }
 {
-    match call_cache(alloc, cache, op, b, bytes) {
+    match call_cache(cache, op, b, bytes) {
         Ok(stored) => enter(steps, owner, op, b, stored),
         Err(Oom) => Err(StepError::Oom),
+    }
+}
+
+/// Reads a block through the cache, and enters it.
+pub fn make_read<D: Disk>(
+    alloc: Global,
+    cache: &mut Cache<D>,
+    steps: &mut Steps,
+    owner: Owner,
+    b: u64,
+    into: &mut [u8],
+) -> Result<SharedBytes, StepError>
+    requires room { length steps.old.items < steps.old.room }
+    requires block { b < (shape_of cache.old).blocks }
+    requires piece { length into.old ≡ (shape_of cache.old).size }
+    ensures bytes { IfOk result (λ bytes. bytes ≡ into.new) }
+    ensures entry { steps.new ≡ record steps.old { items = steps.old.items ++ entries_added (answer_alone result) (entry_for owner Read b into.new) } }
+    ensures calls { CallsCache (IsCacheCall Read (shape_of cache.old).blocks (shape_of cache.old).size b into.new) cache.old (answer_alone result) cache.new }
+    ensures gives { AreGiven (changes_of (entries_added (answer_alone result) (entry_for owner Read b into.new))) cache.old }
+    ensures content { HasContentBy (changes_of (entries_added (answer_alone result) (entry_for owner Read b into.new))) cache.old cache.new }
+    ensures shape { shape_of cache.new ≡ shape_of cache.old }
+    ensures fault { IsErrOf (answer_alone result) StepError.Fault → HasFaulted cache.old cache.new }
+{
+    match read(alloc, cache, b, into) {
+        Ok(found) => {
+            let BlockRead { stored, bytes } = found;
+            let answer = enter(steps, owner, Op::Read, b, stored);
+            with_bytes(answer, bytes)
+        }
+        Err(Oom) => Err(StepError::Oom),
+    }
+}
+
+// These bytes, where the step succeeded.
+fn with_bytes(answer: Result<(), StepError>, bytes: SharedBytes) -> Result<SharedBytes, StepError>
+    ensures answer { answer_alone result ≡ answer }
+    ensures bytes { IfOk result (λ given. given ≡ bytes) }
+{
+    match answer {
+        Ok(()) => Ok(bytes),
+        Err(error) => Err(error),
     }
 }
 

@@ -9,7 +9,7 @@ use atomic_table::Table;
 use host_block::Oom;
 use std::alloc::Global;
 
-// A cell has five words: left, error, device front, memory front, closing.
+// The words of a cell: first the members that are left, and then these.
 pub(crate) const ERROR: usize = 1;
 
 pub(crate) const DEVICE_FRONT: usize = 2;

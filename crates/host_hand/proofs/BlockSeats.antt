@@ -1,6 +1,6 @@
 -- Seats that a hand has used, and the steps on one block after another.
 use Rattle.std.proofs.Common.{◌≡◌, ℕ, ◌+◌, ◌≤◌, ◌<◌, true, false, Result, Ok, Err, List, [], ◌∷◌, drop, Option, refl, sym, subst, ◌∙◌, arith}
-use Rattle.std.specs.Prelude.{is_err, is_ok}
+use Rattle.std.specs.Prelude.{is_err}
 use Rattle.atomic_table.specs.Seated.{TableId}
 use Rattle.host_block.specs.declared.op.Op.{Op}
 use Rattle.host_block.specs.declared.op.Op.TheVariants.{Read, Write, Trim, Flush}
@@ -34,14 +34,6 @@ pub of_pool_still : (pool : TableId × ℕ) (old new : MemorySeat) → IsOfPool 
 of_pool_still pool old new a same = λ plan is. a plan (sym same.3 ∙ is)
 
 -- ---- all blocks
-
-pub is_ok_of : (a : Result Unit StepError) → is_ok a ≡ true → a ≡ Ok tt
-is_ok_of (Ok x) e = refl
-is_ok_of (Err x) e = absurd (cc e)
-
-pub is_err_of : (a : Result Unit StepError) → is_ok a ≡ false → (x : StepError) × (a ≡ Err x)
-is_err_of (Ok x) e = absurd (cc e)
-is_err_of (Err x) e = (x, refl)
 
 pub ok_is : (a : Result Unit StepError) → is_err a ≡ false → a ≡ Ok tt
 ok_is (Ok x) e = refl

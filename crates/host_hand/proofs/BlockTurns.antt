@@ -1,8 +1,6 @@
 -- One block of a record, in a turn of the buffers and after it.
-use Rattle.std.proofs.Common.{◌≡◌, ℕ, ◌+◌, ◌≤◌, Result, Ok, Err, List, [], ◌∷◌, ◌++◌, length, take, drop, refl, sym, ap, subst, ◌∙◌, arith, append-nil}
+use Rattle.std.proofs.Common.{◌≡◌, ℕ, ◌+◌, ◌≤◌, Result, Ok, Err, List, [], ◌∷◌, ◌++◌, length, refl, sym, ap, subst, ◌∙◌, arith, append-nil}
 use Rattle.std.specs.Prelude.{IfOk, OnErr}
-use Rattle.std.proofs.lemmas.List.{take-append-le}
-use Rattle.std.proofs.Math.Seq.{take-length}
 use Rattle.host_block.specs.declared.op.Op.{Op}
 use Rattle.host_block.specs.declared.op.Op.TheVariants.{Read, Write, Trim}
 use Rattle.host_device.specs.declared.error.StepError.{StepError}
@@ -21,14 +19,10 @@ use Rattle.host_hand.specs.Blocks.{HasRunInTurn}
 use Rattle.host_hand.specs.Buffers.{IsHeld}
 use Rattle.host_hand.specs.Errands.{ask_at}
 use Rattle.host_hand.specs.Growth.{HasGrown}
-use Rattle.host_hand.specs.Runs.{HasRun, IsRun}
+use Rattle.host_hand.specs.Runs.{HasRun}
 use Rattle.host_hand.proofs.BlockRuns.{failed_run, landed_run, plain_run, refused_run, run_keeps, write_run}
 use Rattle.host_hand.proofs.Growing.{grown_nothing, grown_refl, grown_turn}
 use Rattle.host_hand.proofs.HoldPins.{all_under, held_grown, held_still}
-
--- the bytes of which all were written
-pub all_written : (ks ws : List ℕ) → length ws ≡ length ks → take (length ks) (ws ++ drop (length ws) ks) ≡ ws
-all_written ks ws e = take-append-le (length ks) ws (drop (length ws) ks) (omega arith) ∙ (ap (λ n. take n ws) (sym e) ∙ take-length ws)
 
 -- the step was made on the record's block
 pub on_block : (e : Errand) (k block : ℕ) (op : Op) (bytes : List ℕ) (answer : Result Unit StepError) (front : ℕ) (s u : List Step) → block ≡ e.part.first + e.request.dev_offset + k
@@ -128,13 +122,12 @@ refused_before e op k ask run front old new s is le g = record {
 }
 
 module _ (e : Errand) (k : ℕ) (run : Run) (s u : List Step) (front : run.front ≡ length u) where
-  pub written_before : (piece bytes : List ℕ) (old new : List MemEntry) → bytes ≡ piece → HasGrown (λ (x : MemEntry). x.hand) e.hand e.memory_front (length new) (under e.hand (lift_for e.index e.request k piece ∷ [])) old new
-      → HasGrown (λ (y : Step). y.hand) e.hand e.device_front run.front (entries_added run.answer (entry_of e.hand e.session e.index k Write (e.part.first + e.request.dev_offset + k) bytes)) s u → HasRun e Write k (ask_at e Write k ∷ []) run old new s u
-  written_before piece bytes old new same lifted g = record {
-    steps = entries_added run.answer (entry_of e.hand e.session e.index k Write (e.part.first + e.request.dev_offset + k) bytes);
+  pub written_before : (piece : List ℕ) (old new : List MemEntry) → HasGrown (λ (x : MemEntry). x.hand) e.hand e.memory_front (length new) (under e.hand (lift_for e.index e.request k piece ∷ [])) old new
+      → HasGrown (λ (y : Step). y.hand) e.hand e.device_front run.front (entries_added run.answer (entry_of e.hand e.session e.index k Write (e.part.first + e.request.dev_offset + k) piece)) s u → HasRun e Write k (ask_at e Write k ∷ []) run old new s u
+  written_before piece old new lifted g = record {
+    steps = entries_added run.answer (entry_of e.hand e.session e.index k Write (e.part.first + e.request.dev_offset + k) piece);
     moves = lift_for e.index e.request k piece ∷ [];
-    run_is = subst (λ b. IsRun e Write k (ask_at e Write k ∷ []) (entries_added run.answer (entry_of e.hand e.session e.index k Write (e.part.first + e.request.dev_offset + k) bytes)) (lift_for e.index e.request k b ∷ []) run.answer) same
-        (write_run e k (e.part.first + e.request.dev_offset + k) bytes run.answer);
+    run_is = write_run e k (e.part.first + e.request.dev_offset + k) piece run.answer;
     device = g;
     buffers = lifted;
     front = omega arith;

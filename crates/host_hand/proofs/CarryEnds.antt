@@ -33,7 +33,7 @@ use Rattle.host_hand.specs.declared.work.Work.TheVariants as work
 use Rattle.host_hand.specs.Buffers.{HasLetGo, pages_freed, release_of}
 use Rattle.host_hand.specs.Errands.{IsStepFor, asks_upto}
 use Rattle.host_hand.specs.Frames.{pages_by, pages_in, released_by}
-use Rattle.host_hand.specs.Growth.{EachOwn, HasGrown}
+use Rattle.host_hand.specs.Growth.{EachOwn, HasGrown, IsReached}
 use Rattle.host_session.specs.Moves.{moves_by}
 use Rattle.host_hand.specs.Records.{IsClosedBefore}
 use Rattle.host_hand.specs.Runs.{HasRun, IsRun, status_by}
@@ -114,6 +114,8 @@ module _ (e : Errand) (pool : TableId × ℕ) (run : Run) (freed : Option (ℕ �
         (sym (under_append e.hand r.moves (Done e.index e.request.vmoid ∷ release_of e.request.vmoid freed)) ∙ ap (under e.hand) (sym (append_assoc r.moves (Done e.index e.request.vmoid ∷ []) (release_of e.request.vmoid freed))))
         (grown_after (λ (x : MemEntry). x.hand) e.hand e.memory_front (length mid) front (under e.hand r.moves) (under e.hand (Done e.index e.request.vmoid ∷ release_of e.request.vmoid freed)) h mid new (let f = gone.front_is in let l = longer_length mid new gone.grown.begins in omega arith) r.buffers gone.grown);
     past_buffers = past;
+    device_reached = r.front;
+    memory_reached = omega (arith, gone.front_is);
     is_freed = gone.is_freed;
     closers = λ p x at by from. closed p x at by from (get_append mid gone.grown.begins.0 p x (ap (λ l. slice_get l p) gone.grown.begins.1 ∙ at));
     frames = gone.frames ∙ ap (λ k. k + pages_freed freed) (released_moves e.index e.hand e.memory_front (length mid) r.moves h mid named r.buffers);
@@ -143,14 +145,16 @@ module _ (e : Errand) (pool : TableId × ℕ) (run : Run) (freed : Option (ℕ �
 
 module _ (e : Errand) (pool : TableId × ℕ) (h new : List MemEntry) (s u : List Step) (c : Continues (λ (x : MemEntry). x.hand) e.hand h new) where
   pub bare_carried : (w : Work) (end : RecordEnd) (steps : List Step) → IsOutcome e (verdict_of w) end steps [] → HasGrown (λ (x : Step). x.hand) e.hand e.device_front end.device_front steps s u → IsPastBuffers w end new
-      → HasCarried e w pool (record { end = end; freed = None }) h new s u
-  bare_carried w end steps outcome device past = record {
+      → IsReached end.device_front u → IsReached end.memory_front new → HasCarried e w pool (record { end = end; freed = None }) h new s u
+  bare_carried w end steps outcome device past device_reached memory_reached = record {
     steps = steps;
     moves = [];
     outcome_is = outcome;
     device = device;
     buffers = grown_nothing (λ (x : MemEntry). x.hand) e.hand e.memory_front end.memory_front h new c;
     past_buffers = past;
+    device_reached = device_reached;
+    memory_reached = memory_reached;
     is_freed = tt;
     closers = none_closed e.hand h new c;
     frames = none_freed e.hand h new c;
@@ -158,7 +162,7 @@ module _ (e : Errand) (pool : TableId × ℕ) (h new : List MemEntry) (s u : Lis
 
 pub refused_carried : (e : Errand) (pool : TableId × ℕ) (status : Status) (h : List MemEntry) (s : List Step) → HasCarried e (work.Refuse status) pool (record { end = record { outcome = status; device_front = 0; memory_front = 0 }; freed = None }) h h s s
 refused_carried e pool status h s = bare_carried e pool h h s s (prefix_refl h, refl) (work.Refuse status) (record { outcome = status; device_front = 0; memory_front = 0 }) []
-    (record { made = All-nil (IsStepFor e); named = All-nil (IsMoveFor e.index); carried = refl; outcome = refl; moved = refl }) (grown_refl (λ (x : Step). x.hand) e.hand e.device_front 0 s) tt
+    (record { made = All-nil (IsStepFor e); named = All-nil (IsMoveFor e.index); carried = refl; outcome = refl; moved = refl }) (grown_refl (λ (x : Step). x.hand) e.hand e.device_front 0 s) tt (omega arith) (omega arith)
 
 -- an accepted record, by what it asks for
 plain_outcome : (e : Errand) (o : Option Opcode) (end : RecordEnd) (steps : List Step) → opcode e.request ≡ o → All (IsStepFor e) steps → carries_out (asked_by o e.part e.request) steps ≡ true → end.outcome ≡ ended (asked_by o e.part e.request) steps
@@ -174,7 +178,7 @@ plain_outcome e o end steps is made carried outcome moved = record {
 pub closed_carried : (e : Errand) (pool : TableId × ℕ) (pages : SeenPages) (front : ℕ) (h new : List MemEntry) (s : List Step) → opcode e.request ≡ Some opcode.Close → front ≡ length new → HasGrown (λ (x : MemEntry). x.hand) e.hand e.memory_front front [] h new
     → HasCarried e (work.Close pages) pool (record { end = record { outcome = status.Ok; device_front = 0; memory_front = front }; freed = None }) h new s s
 closed_carried e pool pages front h new s is front_is g = bare_carried e pool h new s s (grown_continues (λ (x : MemEntry). x.hand) e.hand e.memory_front front h new g) (work.Close pages) (record { outcome = status.Ok; device_front = 0; memory_front = front }) []
-    (plain_outcome e (Some opcode.Close) (record { outcome = status.Ok; device_front = 0; memory_front = front }) [] is (All-nil (IsStepFor e)) refl refl refl) (grown_refl (λ (x : Step). x.hand) e.hand e.device_front 0 s) front_is
+    (plain_outcome e (Some opcode.Close) (record { outcome = status.Ok; device_front = 0; memory_front = front }) [] is (All-nil (IsStepFor e)) refl refl refl) (grown_refl (λ (x : Step). x.hand) e.hand e.device_front 0 s) front_is (omega arith) (omega (arith, front_is))
 
 pub trim_carried : (e : Errand) (pool : TableId × ℕ) (run : Run) (h new : List MemEntry) (s u : List Step) → opcode e.request ≡ Some opcode.Trim → HasRun e Trim 0 (asks_upto e Trim e.request.length) run h new s u
     → HasCarried e work.Trim pool (record { end = record { outcome = status_by run.answer; device_front = run.front; memory_front = 0 }; freed = None }) h new s u
@@ -182,10 +186,10 @@ trim_carried e pool run h new s u is r =
     let none = trim_moves e 0 (asks_upto e Trim e.request.length) r.steps r.moves run.answer r.run_is in
     let still = grown_continues (λ (x : MemEntry). x.hand) e.hand e.memory_front (length new) h new (grown_as (λ (x : MemEntry). x.hand) e.hand e.memory_front (length new) (under e.hand r.moves) [] h new (ap (under e.hand) none) r.buffers) in
     bare_carried e pool h new s u still work.Trim (record { outcome = status_by run.answer; device_front = run.front; memory_front = 0 }) r.steps
-    (plain_outcome e (Some opcode.Trim) (record { outcome = status_by run.answer; device_front = run.front; memory_front = 0 }) r.steps is r.run_is.made r.run_is.carried (sym r.run_is.answered) refl) r.device tt
+    (plain_outcome e (Some opcode.Trim) (record { outcome = status_by run.answer; device_front = run.front; memory_front = 0 }) r.steps is r.run_is.made r.run_is.carried (sym r.run_is.answered) refl) r.device tt r.front (omega arith)
 
 pub flush_carried : (e : Errand) (pool : TableId × ℕ) (run : Run) (steps : List Step) (h : List MemEntry) (s u : List Step) → opcode e.request ≡ Some opcode.Flush → IsRun e Flush 0 (record { k = 0; op = Flush; block = 0 } ∷ []) steps [] run.answer
-    → HasGrown (λ (x : Step). x.hand) e.hand e.device_front run.front steps s u → HasCarried e work.Flush pool (record { end = record { outcome = status_by run.answer; device_front = run.front; memory_front = 0 }; freed = None }) h h s u
-flush_carried e pool run steps h s u is r g =
+    → HasGrown (λ (x : Step). x.hand) e.hand e.device_front run.front steps s u → IsReached run.front u → HasCarried e work.Flush pool (record { end = record { outcome = status_by run.answer; device_front = run.front; memory_front = 0 }; freed = None }) h h s u
+flush_carried e pool run steps h s u is r g reached =
     bare_carried e pool h h s u (prefix_refl h, refl) work.Flush (record { outcome = status_by run.answer; device_front = run.front; memory_front = 0 }) steps
-    (plain_outcome e (Some opcode.Flush) (record { outcome = status_by run.answer; device_front = run.front; memory_front = 0 }) steps is r.made r.carried (sym r.answered) refl) g tt
+    (plain_outcome e (Some opcode.Flush) (record { outcome = status_by run.answer; device_front = run.front; memory_front = 0 }) steps is r.made r.carried (sym r.answered) refl) g tt reached (omega arith)

@@ -25,7 +25,7 @@ use Rattle.host_hand.specs.Growth.{HasGrown}
 use Rattle.host_session.specs.Moves.{moves_for, moves_owed}
 use Rattle.host_hand.specs.Records.{HasClosed, HasEnded, HasReleased, IsClosedBefore, IsEnding, asks_in, steps_for}
 use Rattle.host_hand.proofs.Entered.{taken_longer, taking_longer}
-use Rattle.host_hand.proofs.Growing.{own_grown, stands_longer}
+use Rattle.host_hand.proofs.Growing.{longer_length, own_grown, stands_longer}
 
 pub all_map : {A : Type 0} (P Q : A → Type 0) (xs : List A) → ((x : A) → P x → Q x) → All P xs → All Q xs
 all_map P Q [] f h = All-nil Q
@@ -133,6 +133,8 @@ module _ (part : Range) (s n i : ℕ) (es more : List IntakeEntry) (h h' : List 
     memory_front = own_grown (λ e. e.hand) n (λ p e. index_of e.what ≡ Some l.index → p < l.end.memory_front) (IsOf i) fh th entries h h' k.memory_front gh ah
         (λ p e from past below is index. absurd (is_of_other l.index i (index_of e.what) ne is index));
     taking_front = k.taking_front;
+    device_reached = omega (arith, k.device_reached, longer_length made made' gs.begins);
+    memory_reached = omega (arith, k.memory_reached, longer_length h h' gh.begins);
   }
 
   closed_kept : (l : Landing) → HasClosed n es h l → HasClosed n more h' l
@@ -141,6 +143,8 @@ module _ (part : Range) (s n i : ℕ) (es more : List IntakeEntry) (h h' : List 
     outcome = k.outcome;
     buffer = k.buffer;
     released = released_longer n l.index k.buffer l.end.memory_front h h' gh.begins k.released;
+    device_front = k.device_front;
+    memory_reached = omega (arith, k.memory_reached, longer_length h h' gh.begins);
   }
 
   pub ending_kept : (l : Landing) → length (takings es) ≤ i → IsEnding part s n es h made l → IsEnding part s n more h' made' l

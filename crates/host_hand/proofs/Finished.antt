@@ -133,7 +133,7 @@ module _ (spec : SessionSpec) (n : ℕ) (pool : TableId × ℕ) (before es1 es2 
   outcome = subst (λ v. IsOutcome errand v c.end f.carried.steps f.carried.moves) (sym f.verdict) f.carried.outcome_is
 
   closes : FreedClose spec n es1 es2 es3 h' new_s s.pushed s'.pushed
-  closes = freed_close spec n errand pool c.end.memory_front c.freed es1 es2 es3 h' new_s s s' refl f.landed.begins f.carried.is_freed f.freed
+  closes = freed_close spec n errand pool c.end.memory_front c.freed es1 es2 es3 h' new_s s s' refl f.landed.begins f.carried.is_freed f.carried.memory_reached f.freed
 
   taken_one : HasAdded maker_of n (entry_for t ∷ []) before es1
   taken_one = taken_added n before es1 t f.taken.by f.taken.entries
@@ -243,6 +243,8 @@ module _ (spec : SessionSpec) (n : ℕ) (pool : TableId × ℕ) (before es1 es2 
         (λ p x at by same. absurd (old_move p x same (f.keeps.moves p x at by))) f.carried.buffers
         (entries_meant errand t.verdict n errand.request.vmoid c.end f.carried.steps f.carried.moves c.freed outcome) (λ p x from past below u same. below);
     taking_front = taking_below spec f.taken.admissions h h' t w c.end f.carried.buffers.begins f.taken.judged f.verdict f.is_for f.carried.past_buffers;
+    device_reached = f.carried.device_reached;
+    memory_reached = f.carried.memory_reached;
   }
 
   all_takings : takings (entry_for t ∷ (closes.added ++ own_landed)) ≡ t ∷ []

@@ -21,7 +21,7 @@ use Rattle.host_hand.specs.declared.errand.Errand.{Errand}
 use Rattle.host_hand.specs.Buffers.{IsFreed}
 use Rattle.host_hand.specs.Ends.{LandsFreed, slips_pushed}
 use Rattle.host_hand.specs.Visits.{is_begun}
-use Rattle.host_hand.specs.Growth.{HasAdded}
+use Rattle.host_hand.specs.Growth.{HasAdded, IsReached}
 use Rattle.host_hand.specs.Records.{HasClosed, HasReleased, IsEnding}
 use Rattle.host_hand.proofs.Entered.{is_no_pass, slip_now, taking_longer}
 
@@ -40,8 +40,8 @@ pub record FreedClose (spec : SessionSpec) (n : ℕ) (es more last : List Intake
   pub slips : pushed ≡ was ++ filter_map slip_now added
 
 pub freed_close : (spec : SessionSpec) (n : ℕ) (e : Errand) (pool : TableId × ℕ) (front : ℕ) (freed : Option (ℕ × SeenPages)) (es more last : List IntakeEntry) (h : List MemEntry) (made : List Step) (s s' : SlipSenderState)
-    → e.hand ≡ n → IsPrefix more last → IsFreed e pool front h freed → LandsFreed n front freed es more s s' → FreedClose spec n es more last h made s.pushed s'.pushed
-freed_close spec n e pool front None es more last h made s s' by b f k = record {
+    → e.hand ≡ n → IsPrefix more last → IsFreed e pool front h freed → IsReached front h → LandsFreed n front freed es more s s' → FreedClose spec n es more last h made s.pushed s'.pushed
+freed_close spec n e pool front None es more last h made s s' by b f reached k = record {
   added = [];
   has_added = record { begins = ([], append-nil es ∙ sym k.0); own = ap (entries_of maker_of n) k.0 ∙ sym (append-nil (entries_of maker_of n es)) };
   takes = refl;
@@ -50,7 +50,7 @@ freed_close spec n e pool front None es more last h made s s' by b f k = record 
   endings = All-nil (IsEnding spec.part spec.number n last h made);
   slips = ap (λ (x : SlipSenderState). x.pushed) k.1 ∙ sym (append-nil s.pushed);
 }
-freed_close spec n e pool front (Some freed) es more last h made s s' by b f k =
+freed_close spec n e pool front (Some freed) es more last h made s s' by b f reached k =
     let end : RecordEnd = record { outcome = status.Ok; device_front = 0; memory_front = front } in
     let l : Landing = record { hand = n; index = freed.0; end = end; answer = k.answer; kept = k.kept } in
     let closed : HasClosed n last h l = record {
@@ -58,6 +58,8 @@ freed_close spec n e pool front (Some freed) es more last h made s s' by b f k =
       outcome = refl;
       buffer = e.request.vmoid;
       released = subst (λ m. HasReleased m freed.0 e.request.vmoid front h) by f.1;
+      device_front = refl;
+      memory_reached = reached;
     } in
     record {
       added = Landed n freed.0 end k.answer k.kept ∷ [];

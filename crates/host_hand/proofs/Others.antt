@@ -1,5 +1,5 @@
 -- What a hand keeps at other sessions, and at the start.
-use Rattle.std.proofs.Common.{◌≡◌, ◌≢◌, ℕ, ◌≤◌, ◌&&◌, ◌==◌, cond, List, [], ◌∷◌, ◌++◌, length, filter, Some, refl, sym, ap, subst, ◌∙◌, ◌⊎◌, inl, inr, append-nil, ne_eqb}
+use Rattle.std.proofs.Common.{◌≡◌, ◌≢◌, ℕ, ◌≤◌, ◌&&◌, ◌==◌, cond, List, [], ◌∷◌, ◌++◌, length, filter, Some, refl, sym, ap, subst, ◌∙◌, ◌⊎◌, inl, inr, arith, append-nil, ne_eqb}
 use Rattle.std.specs.List.{All, slice_get}
 use Rattle.std.proofs.lemmas.List.Elements.{All-nil, All-head, All-tail, filter-append}
 use Rattle.host_model.specs.declared.memory.MemEntry.{MemEntry}
@@ -15,7 +15,7 @@ use Rattle.host_hand.specs.Kept.{IsAtSession, own_landings}
 use Rattle.host_session.specs.Moves.{moves_for, moves_owed}
 use Rattle.host_hand.specs.Records.{IsEnding, asks_in, steps_for}
 use Rattle.host_hand.proofs.Endings.{all_map, is_step_of}
-use Rattle.host_hand.proofs.Growing.{own_place}
+use Rattle.host_hand.proofs.Growing.{longer_length, own_place}
 
 -- steps for another session are none for this one
 other_steps : (s i session : ℕ) (steps : List Step) → session ≢ s → All (λ (step : Step). step.session ≡ session) steps → filter (is_step_of s i) steps ≡ []
@@ -51,6 +51,8 @@ module _ (spec : SessionSpec) (session n : ℕ) (es : List IntakeEntry) (h : Lis
       device_front = λ p step at by session index. k.device_front p step (old_one p step at by session) by session index;
       memory_front = k.memory_front;
       taking_front = k.taking_front;
+      device_reached = omega (arith, k.device_reached, longer_length made made' a.begins);
+      memory_reached = k.memory_reached;
     },
   )
 

@@ -1,7 +1,11 @@
--- How a history grows while one maker adds to it.
+-- How a history grows while one maker adds to it, and which fronts it reaches.
 use Rattle.std.specs.Prelude.{◌≡◌, ℕ, ◌<◌, ◌≤◌, List, ◌++◌, length, slice_get, Some}
 use mathlib.Core.List.{IsPrefix}
 use Rattle.host_turn.specs.History.{entries_of}
+
+-- a history reaches a front: it has at least so many entries
+abbrev pub IsReached : {E : Type 0} → ℕ → List E → Type 0
+IsReached front history = front ≤ length history
 
 module _ {E : Type 0} (maker : E → ℕ) where
   -- each entry of maker n stands at a place where this holds of it

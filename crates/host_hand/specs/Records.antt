@@ -14,7 +14,7 @@ use Rattle.host_turn.specs.History.{entries_of}
 use Rattle.host_intake.specs.declared.entry.IntakeEntry.{IntakeEntry}
 use Rattle.host_intake.specs.Entries.{Taking, Landing, takings, request_in}
 use Rattle.host_intake.specs.Takings.{made}
-use Rattle.host_hand.specs.Growth.{EachOwn}
+use Rattle.host_hand.specs.Growth.{EachOwn, IsReached}
 use Rattle.host_session.specs.Moves.{moves_for, moves_owed}
 
 -- ---- what a hand did for one record
@@ -57,7 +57,7 @@ IsClosedBefore h p e = (v : ℕ) → e.what ≡ Release v → is_some (closer_of
 
 -- The record that landed was taken so by hand n, and didn't wait. It was carried out by the hand's steps, with their
 -- outcome; what the hand did to its buffer is what these steps ask for; and the fronts are past all of it, and past what
--- taking the record left.
+-- taking the record left. The histories that the hand has seen reach them.
 pub record HasEnded (part : Range) (s n : ℕ) (es : List IntakeEntry) (h : List MemEntry) (steps : List Step) (l : Landing) (t : Taking) : Type 0 where
   pub stands : slice_get (takings es) l.index ≡ Some t
   pub by : t.hand ≡ n
@@ -68,6 +68,8 @@ pub record HasEnded (part : Range) (s n : ℕ) (es : List IntakeEntry) (h : List
   pub device_front : EachOwn (λ step. step.hand) n (λ p step. step.session ≡ s → step.index ≡ l.index → p < l.end.device_front) steps
   pub memory_front : EachOwn (λ e. e.hand) n (λ p e. index_of e.what ≡ Some l.index → p < l.end.memory_front) h
   pub taking_front : (k : ℕ) → k < length (made t) → t.seen + k < l.end.memory_front
+  pub device_reached : IsReached l.end.device_front steps
+  pub memory_reached : IsReached l.end.memory_front h
 
 -- Hand n released buffer v below the front, and record i had closed it before.
 pub record HasReleased (n i v front : ℕ) (h : List MemEntry) : Type 0 where
@@ -76,12 +78,15 @@ pub record HasReleased (n i v front : ℕ) (h : List MemEntry) : Type 0 where
   pub below : place < front
   pub closed : closer_of v (events (take place h)) ≡ Some i
 
--- The record that landed is a close that waited, and the last pin of its buffer was let go of by this hand.
+-- The record that landed is a close that waited, and the last pin of its buffer was let go of by this hand. It is past
+-- nothing at the device; the buffers' history that the hand has seen reaches its front.
 pub record HasClosed (n : ℕ) (es : List IntakeEntry) (h : List MemEntry) (l : Landing) : Type 0 where
   pub waits : MatchOption (slice_get (takings es) l.index) ⊥ (λ t. t.waits ≡ true)
   pub outcome : l.end.outcome ≡ status.Ok
   pub buffer : ℕ
   pub released : HasReleased n l.index buffer l.end.memory_front h
+  pub device_front : l.end.device_front ≡ 0
+  pub memory_reached : IsReached l.end.memory_front h
 
 -- how a record ended whose end hand n told
 abbrev pub IsEnding : Range → ℕ → ℕ → List IntakeEntry → List MemEntry → List Step → Landing → Type 0

@@ -35,7 +35,7 @@ abbrev pub is_closed : Visit → Bool
 is_closed visit.Closed = true
 is_closed _ = false
 
--- no answer is kept, or the ring was full
+-- no answer is kept, or the ring gave it back
 abbrev pub HasNothingToPass : List IntakeEntry → SlipSenderState → Type 0
 HasNothingToPass es sender = (kept_slips es ≡ []) ⊎ FoundNoRoom sender
 

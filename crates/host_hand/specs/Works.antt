@@ -24,7 +24,7 @@ use Rattle.host_hand.specs.Blocks.{IsInside}
 use Rattle.host_hand.specs.Buffers.{IsFreed, IsHeld, pages_freed, release_of}
 use Rattle.host_hand.specs.Errands.{IsStepFor}
 use Rattle.host_hand.specs.Frames.{released_by}
-use Rattle.host_hand.specs.Growth.{EachOwn, HasGrown}
+use Rattle.host_hand.specs.Growth.{EachOwn, HasGrown, IsReached}
 use Rattle.host_session.specs.Moves.{moves_owed}
 use Rattle.host_hand.specs.Records.{IsClosedBefore}
 
@@ -108,8 +108,8 @@ IsPastBuffers work.Read end h = end.memory_front ≡ length h
 IsPastBuffers work.Write end h = end.memory_front ≡ length h
 IsPastBuffers _ end h = Unit {0}
 
--- The record was carried out, which left these entries with the device and the buffers. Where it let go of a buffer for
--- which a close waited, the buffer's pages came out.
+-- The record was carried out, which left these entries with the device and the buffers, whose histories reach the fronts of
+-- its end. Where it let go of a buffer for which a close waited, the buffer's pages came out.
 pub record HasCarried (e : Errand) (w : Work) (pool : TableId × ℕ) (carried : Carried) (old_h new_h : List MemEntry) (old_s new_s : List Step) : Type 0 where
   pub steps : List Step
   pub moves : List MemEvent
@@ -117,6 +117,8 @@ pub record HasCarried (e : Errand) (w : Work) (pool : TableId × ℕ) (carried :
   pub device : HasGrown (λ step. step.hand) e.hand e.device_front carried.end.device_front steps old_s new_s
   pub buffers : HasGrown (λ x. x.hand) e.hand e.memory_front carried.end.memory_front (under e.hand (moves ++ release_of e.request.vmoid carried.freed)) old_h new_h
   pub past_buffers : IsPastBuffers w carried.end new_h
+  pub device_reached : IsReached carried.end.device_front new_s
+  pub memory_reached : IsReached carried.end.memory_front new_h
   pub is_freed : IsFreed e pool carried.end.memory_front new_h carried.freed
   pub closers : EachOwn (λ x. x.hand) e.hand (λ p x. length old_h ≤ p → IsClosedBefore new_h p x) new_h
   pub frames : released_by e.hand new_h ≡ released_by e.hand old_h + pages_freed carried.freed

@@ -1,4 +1,4 @@
-// One block of a read, write or trim, and all of them.
+// The blocks of a transfer or trim, one by one.
 ghost use Rattle.std.specs.Prelude.{◌≡◌, ◌≤◌, ◌<◌, ◌+◌, [], ◌∷◌, length, IsTrue, IfOk, OnErr};
 ghost use Rattle.host_block.specs.declared.op.Op.TheVariants.{Read, Write};
 ghost use Rattle.host_intake.specs.Takings.{under};
@@ -16,13 +16,15 @@ ghost use Rattle.host_hand.specs.Posts.{IsAtDevice};
 ghost use Rattle.host_hand.specs.Runs.{HasRun};
 
 use crate::errand::Errand;
-use crate::hold::{lift, room_for_move};
+use crate::hold::{lift, room_to_land};
+use crate::read::{ReadRun, read_at};
 use crate::run::Run;
 use crate::step::step_at;
-use host_block::{Bytes, Oom, Op};
+use host_block::{Oom, Op};
 use host_device::Device;
 use host_io::Disk;
 use host_memory::Memory;
+use host_model::SharedBytes;
 use host_turn::{Book, BookSeat};
 use std::alloc::Global;
 use std::sync::Wait;
@@ -124,7 +126,7 @@ fn carry_block<D: Disk, R: Wait>(
             k,
             Op::Trim,
             errand.block(k),
-            &mut [],
+            SharedBytes::empty(),
         ),
         Op::Flush => unreachable!(),
     }
@@ -194,30 +196,42 @@ fn read_in_turn<D: Disk, R: Wait>(
     ensures plan { memory.new.plan ≡ memory.old.plan }
     ensures adds { Adds (λ e. e.hand) errand.now.hand memory.old.entries memory.new.entries }
 {
-    let Ok(mut bytes) = room_for_move(alloc, memory, errand) else {
+    let Ok(mut piece) = room_to_land(alloc, memory, errand) else {
         return Run::refused(front);
     };
-    let run = step_at(
+    let read = read_at(
         rt,
         device,
         device_seat,
         errand,
         k,
-        Op::Read,
         errand.block(k),
-        bytes.as_mut_slice(),
+        piece.as_mut_slice(),
     );
-    if run.answer.is_ok() {
-        memory.land(
-            errand.hand,
-            errand.index,
-            k,
-            errand.request.vmoid,
-            page,
-            bytes,
-        );
+    let ReadRun {
+        answer,
+        front: reached,
+    } = read;
+    match answer {
+        Ok(bytes) => {
+            memory.land(
+                errand.hand,
+                errand.index,
+                k,
+                errand.request.vmoid,
+                page,
+                bytes,
+            );
+            Run {
+                answer: Ok(()),
+                front: reached,
+            }
+        }
+        Err(error) => Run {
+            answer: Err(error),
+            front: reached,
+        },
     }
-    run
 }
 
 // One block of a write: its page is lifted, and then the step is made.
@@ -242,7 +256,7 @@ fn write_block<D: Disk, R: Wait>(
     ensures run { HasRun errand.now Write k (ask_at errand.now Write k ∷ []) result (seen_by memory_seat.old) (seen_by memory_seat.new) (seen_by device_seat.old) (seen_by device_seat.new) }
     ensures front { front ≤ result.front }
 {
-    let Ok(mut piece) = lift_page(rt, alloc, book, memory_seat, errand, k) else {
+    let Ok(piece) = lift_page(rt, alloc, book, memory_seat, errand, k) else {
         return Run::refused(front);
     };
     step_at(
@@ -253,7 +267,7 @@ fn write_block<D: Disk, R: Wait>(
         k,
         Op::Write,
         errand.block(k),
-        piece.as_mut_slice(),
+        piece,
     )
 }
 
@@ -265,7 +279,7 @@ fn lift_page<R: Wait>(
     seat: &mut BookSeat<Memory>,
     errand: &Errand,
     k: u32,
-) -> Result<Bytes, Oom>
+) -> Result<SharedBytes, Oom>
     requires buffers { IsAtBuffers (book_id book.now) errand.now.hand errand.now.size seat.old }
     requires held { IsHeld errand.now (seen_by seat.old) }
     requires block { k < errand.now.request.length }

@@ -26,6 +26,7 @@ use host_frames::{Pages, Pool, PoolSeat};
 use host_intake::RecordEnd;
 use host_io::Disk;
 use host_memory::Memory;
+use host_model::SharedBytes;
 use host_record::Status;
 use host_turn::{Book, BookSeat};
 use std::alloc::Global;
@@ -230,7 +231,16 @@ fn flush<D: Disk, R: Wait>(
     ensures seat { IsSameSeat device_seat.old device_seat.new × IsOutside device_seat.new }
     ensures carried { (pool : TableId × ℕ) (h : List MemEntry) → HasCarried errand.now work.Flush pool result h h (seen_by device_seat.old) (seen_by device_seat.new) }
 {
-    let run = step_at(rt, device, device_seat, errand, 0, Op::Flush, 0, &mut []);
+    let run = step_at(
+        rt,
+        device,
+        device_seat,
+        errand,
+        0,
+        Op::Flush,
+        0,
+        SharedBytes::empty(),
+    );
     end_of(&run)
 }
 

@@ -95,7 +95,7 @@ fn group_answer(group: u16, end: GroupEnd) -> Slip
     }
 }
 
-/// Hands an answer on, if there is one. Tells whether it is to be kept, since the ring was full.
+/// Hands an answer on, if there is one. Tells whether it is to be kept, since the ring gave it back.
 pub(crate) fn push_answer<R: Wait>(rt: &R, sender: &mut SlipSender, answer: Option<Slip>) -> bool
     ensures pushed { sender.new ≡ with_slips sender.old (slips_pushed result answer) }
     ensures kept { result ≡ true → IsSome answer × FoundNoRoom sender.old }

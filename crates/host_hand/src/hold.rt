@@ -14,6 +14,7 @@ use crate::errand::Errand;
 use host_block::{Bytes, Oom};
 use host_frames::{Pages, Pool};
 use host_memory::Memory;
+use host_model::SharedBytes;
 use host_turn::{Book, BookSeat, Story};
 use std::alloc::Global;
 use std::sync::Wait;
@@ -25,8 +26,8 @@ pub(crate) struct LetGo {
     pub(crate) front: u64,
 }
 
-/// Room for one lift or landing, and the bytes of one block.
-pub(crate) fn room_for_move(
+/// Room for one landing, and the bytes of one block to read into.
+pub(crate) fn room_to_land(
     alloc: Global,
     memory: &mut Memory,
     errand: &Errand,
@@ -46,7 +47,7 @@ pub(crate) fn lift(
     errand: &Errand,
     k: u32,
     page: u32,
-) -> Result<Bytes, Oom>
+) -> Result<SharedBytes, Oom>
     requires pinned { IsTrue (is_pinned_by errand.now.hand errand.now.index errand.now.request.vmoid (history memory.old)) }
     requires page { IsTrue (is_block_of errand.now.request.vmoid (history memory.old) page) }
     requires size { size_of memory.old ≡ errand.now.size }
@@ -55,17 +56,15 @@ pub(crate) fn lift(
     ensures plan { memory.new.plan ≡ memory.old.plan }
     ensures adds { Adds (λ e. e.hand) errand.now.hand memory.old.entries memory.new.entries }
 {
-    let keep = room_for_move(alloc, memory, errand)?;
-    let mut piece = Bytes::zeroed(alloc, errand.size.bytes())?;
-    memory.lift(
+    memory.make_room(1)?;
+    let piece = memory.lift(
+        alloc,
         errand.hand,
         errand.index,
         k,
         errand.request.vmoid,
         page,
-        keep,
-        piece.as_mut_slice(),
-    );
+    )?;
     Ok(piece)
 }
 

@@ -9,6 +9,7 @@ mod errand;
 mod hold;
 mod job;
 mod next;
+mod read;
 mod run;
 mod serving;
 mod step;

@@ -13,10 +13,11 @@ use crate::run::Run;
 use host_block::{Oom, Op};
 use host_device::{Device, StepError};
 use host_io::Disk;
+use host_model::SharedBytes;
 use host_turn::{Book, BookSeat, Story};
 use std::sync::Wait;
 
-/// Makes step `k` of a record, past the device front of its envelope. `bytes` are read into, or written.
+/// Makes step `k` of a record, no read, past the device front of its envelope.
 pub(crate) fn step_at<D: Disk, R: Wait>(
     rt: &R,
     book: &Book<Device<D>>,
@@ -25,15 +26,15 @@ pub(crate) fn step_at<D: Disk, R: Wait>(
     k: u32,
     op: Op,
     block: u64,
-    bytes: &mut [u8],
+    bytes: SharedBytes,
 ) -> Run
     requires seat { IsSeatOutside book.now seat.old × (number seat.old ≡ errand.now.hand) }
+    requires kind { is_read op ≡ false }
     requires block { ForSome (fixed_part seat.old) (λ fixed. IsOnDisk op block fixed.blocks) }
-    requires piece { ForSome (fixed_part seat.old) (λ fixed. IsPiece op (length bytes.old) fixed.size) }
+    requires piece { ForSome (fixed_part seat.old) (λ fixed. IsPiece op (length bytes) fixed.size) }
     ensures seat { IsSameSeat seat.old seat.new × IsOutside seat.new }
-    ensures step { HasGrown (λ step. step.hand) errand.now.hand errand.now.device_front result.front (entries_added result.answer (entry_of errand.now.hand errand.now.session errand.now.index k op block bytes.new)) (seen_by seat.old) (seen_by seat.new) }
+    ensures step { HasGrown (λ step. step.hand) errand.now.hand errand.now.device_front result.front (entries_added result.answer (entry_of errand.now.hand errand.now.session errand.now.index k op block bytes)) (seen_by seat.old) (seen_by seat.new) }
     ensures front { result.front ≡ length (seen_by seat.new) }
-    ensures given { is_read op ≡ false → bytes.new ≡ bytes.old }
 {
     let mut device = book.enter_past(rt, seat, errand.device_front);
     let answer = make_step(&mut device, errand, k, op, block, bytes);
@@ -49,13 +50,13 @@ fn make_step<D: Disk>(
     k: u32,
     op: Op,
     block: u64,
-    bytes: &mut [u8],
+    bytes: SharedBytes,
 ) -> Result<(), StepError>
+    requires kind { is_read op ≡ false }
     requires block { IsOnDisk op block (shape_of device.old).blocks }
-    requires piece { IsPiece op (length bytes.old) (shape_of device.old).size }
-    ensures entry { (steps_of device.new).items ≡ (steps_of device.old).items ++ entries_added result (entry_of errand.now.hand errand.now.session errand.now.index k op block bytes.new) }
+    requires piece { IsPiece op (length bytes) (shape_of device.old).size }
+    ensures entry { (steps_of device.new).items ≡ (steps_of device.old).items ++ entries_added result (entry_of errand.now.hand errand.now.session errand.now.index k op block bytes) }
     ensures adds { Adds (λ step. step.hand) errand.now.hand (steps_of device.old).items (steps_of device.new).items }
-    ensures given { is_read op ≡ false → bytes.new ≡ bytes.old }
     ensures fixed { fixed_of device.new ≡ fixed_of device.old }
 {
     match device.make_room() {

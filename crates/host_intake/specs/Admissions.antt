@@ -38,7 +38,7 @@ load_in es = flights_in es + length (kept_slips es)
 abbrev pub IsOpen : IntakeState → Type 0
 IsOpen s = (is_over (phase_in s.entries) ≡ false) × (load_in s.entries < 64)
 
--- no record is held, the records popped are just those taken, and the ring was empty then
+-- no record is held, each one popped was taken, and nothing was found in the ring
 pub record FoundNone (s : IntakeState) : Type 0 where
   pub held : s.held ≡ None
   pub popped : s.taker.taken ≡ map envelope_of (takings s.entries)

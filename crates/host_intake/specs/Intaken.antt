@@ -20,7 +20,7 @@ abbrev pub listed : {A : Type 0} → Option A → List A
 listed None = []
 listed (Some x) = x ∷ []
 
--- The records popped are those taken, and then the one that is held or was dropped by an abort, if there is one.
+-- What was popped is what was taken and at most one record more, which is held, or which an abort dropped.
 pub record ArePopped (room : ℕ) (es : List IntakeEntry) (held : Option Envelope) (taker : TakerState) : Type 0 where
   pub taken : take (length (takings es)) taker.taken ≡ map envelope_of (takings es)
   pub left : was_aborted es ≡ false → drop (length (takings es)) taker.taken ≡ listed held

@@ -29,6 +29,6 @@ pub record IsSettled (cells : TableId) (rs : List Request) (i : ℕ) (end : Reco
   pub device_front : (row right).device_front ≡ end.device_front
   pub memory_front : (row right).memory_front ≡ end.memory_front
 
--- a right is there exactly for a member, and was settled as the record ended
+-- a member has its right, settled as the record ended; a lone record has none
 abbrev pub AreSettled : TableId → List Request → ℕ → RecordEnd → Option CellSeat → Type 0
 AreSettled cells rs i end right = MatchOption right (is_member (request_at rs i) ≡ false) (λ q. (is_member (request_at rs i) ≡ true) × IsSettled cells rs i end q)

@@ -63,9 +63,9 @@ abbrev pub IsPastJudging : List Taking → ℕ → MemEvent → Type 0
 IsPastJudging ts n e = MatchOption (index_of e) (Unit {0}) (λ i. MatchOption (slice_get ts i) ⊥ (λ t. t.seen ≤ n))
 
 -- The records taken have the indexes 0, 1, 2 and so on, and were judged one by one. The entries of the admissions are
--- those that taking them left, in order. Each pin and each close stands at a place not below the beginning on which its
--- record was judged, and so not below the memory front of its record's envelope; and what an earlier record left stands
--- within the beginning on which a later one was judged.
+-- those that taking them left, in order. A record was judged on a beginning of the history, which is no shorter than the
+-- memory front that its envelope carries: its own pin or close comes after that beginning, and all that an earlier record
+-- left lies within it.
 pub record AreTaken (part : Range) (number : ℕ) (whole : List MemEntry) (ts : List Taking) : Type 0 where
   pub indexes : map place_of ts ≡ below (length ts)
   pub judged : (i : ℕ) (t : Taking) → slice_get ts i ≡ Some t → IsJudged part number whole t

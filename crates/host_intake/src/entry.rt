@@ -3,7 +3,7 @@ use host_model::Verdict;
 use host_record::Status;
 use host_rings::{Envelope, Slip};
 
-/// How a record ended, with fronts past all its entries.
+/// A record's end: the outcome, and fronts that count in all that the record entered.
 #[derive(Clone, Copy, Debug, PartialEq, Eq)]
 pub struct RecordEnd {
     pub outcome: Status,

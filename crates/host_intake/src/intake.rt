@@ -23,7 +23,7 @@ use host_turn::{BookSeat, Story};
 use std::alloc::Global;
 use std::marker::Model;
 
-/// The state of one session, behind a book: its records are popped, judged and taken in order, and end with an answer that is handed on or kept.
+/// A session's state, for a book to hand round: its records are popped, judged and taken in order, and end with an answer that is handed on or kept.
 ///
 /// Contracts see the history, and what only the holder of the turn uses: the taker of the session's requests, the admissions' seat at the book of its buffers, and the admitting seat of its cells. No call but `new` takes memory.
 #[derive(Drop)]

@@ -47,7 +47,7 @@ impl Intake {
         }
     }
 
-    /// A copy of the oldest answer kept.
+    /// The oldest of the kept answers, which stays kept.
     pub fn next_kept(&self) -> Option<Slip>
         ensures { result ≡ slice_get (kept_slips self.now.entries) 0 }
     {

@@ -70,15 +70,24 @@ impl Buffer {
         }
     }
 
+    /// The bytes of a page.
+    pub(crate) fn page(&self, block: u32) -> &[u8]
+        requires { block < length (contents_held self.now.pages) }
+        ensures { result.now ≡ page_held self.now.pages block }
+    {
+        match &self.pages {
+            Some(pages) => pages.page(block),
+            None => unreachable!(),
+        }
+    }
+
     /// Copies a page.
     pub(crate) fn copy_out(&self, block: u32, into: &mut [u8])
         requires block { block < length (contents_held self.now.pages) }
         requires long { length into.old ≡ length (page_held self.now.pages block) }
         ensures { into.new ≡ page_held self.now.pages block }
     {
-        if let Some(pages) = &self.pages {
-            into.copy_from_slice(pages.page(block));
-        }
+        into.copy_from_slice(self.page(block));
     }
 
     /// Writes a whole page.

@@ -54,7 +54,7 @@ impl Memory {
         buffer.standing_for(index)
     }
 
-    /// Writes one value into all bytes of these blocks, unless the buffer has no pages or these blocks aren't within them.
+    /// Writes one value into all bytes of these blocks, unless the buffer has no pages, or not all of these.
     pub fn fill(&mut self, id: u16, block: u32, count: u32, byte: u8) -> bool
         requires { used_room (history self.old) + 1 ≤ self.old.plan.limits.room }
         ensures answer { result ≡ has_blocks id (history self.old) block count }
@@ -79,7 +79,7 @@ impl Memory {
         true
     }
 
-    /// Copies these blocks, unless the buffer has no pages or these blocks aren't within them.
+    /// Copies these blocks, unless the buffer has no pages, or not all of these.
     pub fn show(&mut self, id: u16, block: u32, count: u32, into: &mut [u8]) -> bool
         requires room { used_room (history self.old) + 1 ≤ self.old.plan.limits.room }
         requires into { length into.old ≡ count * size_of self.old }

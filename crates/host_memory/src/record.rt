@@ -1,5 +1,5 @@
 //! What records do: they pin a buffer, move pages, and let go of it.
-ghost use Rattle.std.specs.Prelude.{◌≡◌, ◌↔◌, ◌+◌, ◌<◌, ◌≤◌, true, [], ◌∷◌, ◌++◌, length, IsTrue, IsSome, IfSome, MatchOption, option_map};
+ghost use Rattle.std.specs.Prelude.{◌≡◌, ◌↔◌, ◌+◌, ◌<◌, ◌≤◌, true, [], ◌∷◌, ◌++◌, length, IsTrue, IsSome, IfSome, IfOk, OnOk, OnErr, MatchOption, option_map};
 ghost use Rattle.host_model.specs.Lists.{count};
 ghost use Rattle.host_model.specs.Pages.{page_at};
 ghost use Rattle.host_model.specs.declared.memory.MemEvent.TheVariants.{Pin, Lift, Land, Done, Release};
@@ -12,9 +12,10 @@ ghost use Rattle.host_memory.specs.Pins.{closer_due, is_pin_for, is_pinned_by, p
 ghost use Rattle.host_memory.specs.State.{history, size_of, admissions_of};
 
 use crate::memory::Memory;
-use host_block::Bytes;
+use host_block::Oom;
 use host_frames::Pages;
-use host_model::{MemEntry, MemEvent};
+use host_model::{MemEntry, MemEvent, SharedBytes};
+use std::alloc::Global;
 
 impl Memory {
     /// The record holds the buffer until its `done`. The hand `by` is to carry it out.
@@ -34,28 +35,28 @@ impl Memory {
         });
     }
 
-    /// Copies a page out, for step `k` of a write. `keep` becomes the entry's.
+    /// Copies a page out, for step `k` of a write. The entry shares the bytes. It has `Oom` for an answer only for want of
+    /// memory.
     pub fn lift(
         &mut self,
+        alloc: Global,
         hand: u32,
         index: u32,
         k: u32,
         id: u16,
         block: u32,
-        mut keep: Bytes,
-        into: &mut [u8],
-    )
+    ) -> Result<SharedBytes, Oom>
         requires room { 1 ≤ self.old.moves }
         requires pinned { IsTrue (is_pinned_by hand index id (history self.old)) }
         requires block { IsTrue (is_block_of id (history self.old) block) }
-        requires long { (length keep ≡ size_of self.old) × (length into.old ≡ size_of self.old) }
-        ensures bytes { into.new ≡ page_at (size_of self.old) (history self.old) id block }
-        ensures entry { self.new.entries ≡ self.old.entries ++ record { hand = hand; what = Lift index k id block into.new } ∷ [] }
-        ensures rest { (self.new.plan ≡ self.old.plan) × (self.new.moves + 1 ≡ self.old.moves) }
+        ensures bytes { IfOk result (λ piece. (piece ≡ page_at (size_of self.old) (history self.old) id block) × (length piece ≡ size_of self.old)) }
+        ensures entry { IfOk result (λ piece. self.new.entries ≡ self.old.entries ++ record { hand = hand; what = Lift index k id block piece } ∷ []) }
+        ensures rest { OnOk result ((self.new.plan ≡ self.old.plan) × (self.new.moves + 1 ≡ self.old.moves)) }
+        ensures refused { OnErr result (self.new ≡ self.old) }
         ensures adds { Adds (λ e. e.hand) hand self.old.entries self.new.entries }
     {
-        self.buffers[id as usize - 1].copy_out(block, keep.as_mut_slice());
-        into.copy_from_slice(keep.as_slice());
+        let piece = SharedBytes::copied(alloc, self.buffers[id as usize - 1].page(block))?;
+        let bytes = piece.share()?;
         self.moves -= 1;
         self.entries.push(MemEntry {
             hand,
@@ -64,13 +65,14 @@ impl Memory {
                 k,
                 id,
                 block,
-                bytes: keep,
+                bytes,
             },
         });
+        Ok(piece)
     }
 
     /// Copies into a page what step `k` of a read gave.
-    pub fn land(&mut self, hand: u32, index: u32, k: u32, id: u16, block: u32, keep: Bytes)
+    pub fn land(&mut self, hand: u32, index: u32, k: u32, id: u16, block: u32, keep: SharedBytes)
         requires room { 1 ≤ self.old.moves }
         requires pinned { IsTrue (is_pinned_by hand index id (history self.old)) }
         requires block { IsTrue (is_block_of id (history self.old) block) }
@@ -93,7 +95,7 @@ impl Memory {
         });
     }
 
-    /// The record lets go of the buffer. Where this was the last pin of a closed buffer, its pages leave, and the record that closed it is told.
+    /// The record lets go of the buffer. The last one to let go of a closed buffer gets its pages, with the index of the record that closed it.
     pub fn done(&mut self, hand: u32, id: u16, index: u32) -> Option<(u32, Pages)>
         requires { IsTrue (is_pinned_by hand index id (history self.old)) }
         ensures answer { option_map (λ r. r.0) result ≡ closer_due id (history self.old ++ Done index id ∷ []) }

@@ -21,7 +21,7 @@ is_in_buffer before v block count = option_map_or (λ pages. is_within block cou
 abbrev pub was_closed : Session → List Event → ℕ → Bool
 was_closed s before v = option_map_or (λ i. nat_lt i (length (sent before)) && nat_lt i (length s.rows)) (close_of s.log s.range v) false
 
--- the place of the entry of the client's next event that has one; the end of the history where there is none
+-- where the client's next entry after these events stands; the end of the history where it makes none
 abbrev pub next_client_place : Session → List Event → ℕ
 next_client_place s before = get_or (places is_client s.memory) (length (told before)) (length s.memory)
 

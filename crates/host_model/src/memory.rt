@@ -1,6 +1,7 @@
 //! What was done to a session's buffers.
 
-use host_block::{Bytes, ReservedList};
+use crate::shared_bytes::SharedBytes;
+use host_block::ReservedList;
 
 /// One thing that was done to a buffer. Blocks of a buffer are its pages, counted from 0.
 #[derive(Drop)]
@@ -34,7 +35,7 @@ pub enum MemEvent {
         k: u32,
         id: u16,
         block: u32,
-        bytes: Bytes,
+        bytes: SharedBytes,
     },
     /// What step `k` of a read gave was copied in.
     Land {
@@ -42,7 +43,7 @@ pub enum MemEvent {
         k: u32,
         id: u16,
         block: u32,
-        bytes: Bytes,
+        bytes: SharedBytes,
     },
     Done {
         index: u32,

@@ -1,8 +1,9 @@
 //! What was done to the device.
 
-use host_block::{Bytes, Op, ReservedList};
+use crate::shared_bytes::SharedBytes;
+use host_block::{Op, ReservedList};
 
-/// One block of a read, write or trim, or one flush, as it was made.
+/// A step as the device made it: of a transfer or trim one block, or a whole flush.
 #[derive(Drop)]
 pub struct Step {
     pub hand: u32,
@@ -16,7 +17,7 @@ pub struct Step {
     /// The block of the image; 0 for a flush.
     pub block: u64,
     /// The block's bytes; none for a trim, a flush and a read that faulted.
-    pub bytes: Bytes,
+    pub bytes: SharedBytes,
     pub faulted: bool,
 }
 

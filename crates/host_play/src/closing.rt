@@ -7,6 +7,7 @@ ghost use Rattle.host_report.specs.declared.closing.Closing.TheVariants.{Cut as 
 use host_block::Op;
 use host_device::{Device, StepError};
 use host_io::Disk;
+use host_model::SharedBytes;
 use host_report::Closing;
 
 /// Flushes the device after the sessions, unless that is cut.
@@ -27,7 +28,7 @@ fn flush<D: Disk>(device: &mut Device<D>) -> Closing
     if device.make_room().is_err() {
         return Closing::NoMemory;
     }
-    match device.step(0, 0, 0, 0, Op::Flush, 0, &mut []) {
+    match device.step(0, 0, 0, 0, Op::Flush, 0, SharedBytes::empty()) {
         Ok(()) => Closing::Good,
         Err(StepError::Fault) => Closing::Fault,
         Err(StepError::Oom) => Closing::NoMemory,

@@ -10,6 +10,10 @@ use host_device::{Device, NoDevice};
 use host_io::Disk;
 use std::alloc::Global;
 
+// How many steps a device has room for from the start. A script moves at most 134,217,728 bytes, in blocks of at least 512, and
+// a step moves one block. So only flushes can go past this room; then the list grows under the device's turn.
+const STEPS_AHEAD: u64 = 134_217_728 / 512;
+
 /// A device over a disk that is attached, with nothing pending.
 pub fn open_device<D: Disk>(
     alloc: Global,
@@ -41,7 +45,7 @@ fn open_over<D: Disk>(alloc: Global, cache: Cache<D>) -> Result<Device<D>, NoPla
     ensures steps { IfOk result (λ device. (steps_of device).items ≡ []) }
     ensures refused { IfErr result (λ no. no.disk ≡ disk_under cache) }
 {
-    match Device::new(alloc, cache, 0) {
+    match Device::new(alloc, cache, STEPS_AHEAD) {
         Ok(device) => Ok(device),
         Err(NoDevice { cache }) => Err(NoPlay {
             disk: cache.into_disk(),

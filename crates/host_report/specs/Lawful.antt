@@ -31,7 +31,7 @@ pub record IsOnTable (image : List (List ℕ)) (report : Report) : Type 0 where
   pub table : IsTable image report.which disk_id first_usable last_usable entries
   pub ranges : AllByRecursion (λ s. IsRangeOf (record { first_usable = first_usable; last_usable = last_usable; blocks = length image; entries = entries }) s.part s.range) report.sessions.items
 
--- the number and the size of the blocks are the image's
+-- the report counts the image's blocks, and names their length
 pub record IsOfImage (image : List (List ℕ)) (report : Report) : Type 0 where
   pub blocks : report.blocks ≡ length image
   pub size : IsImage report.size image

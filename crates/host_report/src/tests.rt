@@ -3,7 +3,8 @@ use host_block::{BlockSize, Bytes, Oom, Op, Range, ReservedList};
 use host_gpt::Which;
 use host_io::{MemSink, Sink, SinkFailed};
 use host_model::{
-    AttachError, Event, Events, MemEntries, MemEntry, MemEvent, Step, Steps, TakenRow, Verdict,
+    AttachError, Event, Events, MemEntries, MemEntry, MemEvent, SharedBytes, Step, Steps, TakenRow,
+    Verdict,
 };
 use host_record::{Finish, Status};
 use std::alloc::Global;
@@ -177,14 +178,14 @@ fn memory(alloc: Global) -> Result<MemEntries, Fail> {
             k: 0,
             id: 1,
             block: 3,
-            bytes: Bytes::zeroed(alloc, 512)?
+            bytes: SharedBytes::copied(alloc, &[0; 512])?
         }),
         entry(MemEvent::Land {
             index: 2,
             k: 1,
             id: 1,
             block: 4,
-            bytes: Bytes::copied(alloc, &[1, 255])?
+            bytes: SharedBytes::copied(alloc, &[1, 255])?
         }),
         entry(MemEvent::Done { index: 2, id: 1 }),
         entry(MemEvent::Close { index: 3, id: 1 }),
@@ -193,7 +194,7 @@ fn memory(alloc: Global) -> Result<MemEntries, Fail> {
     Ok(list_of(alloc, entries)?)
 }
 
-fn step(at: (u32, u32, u32), op: Op, block: u64, bytes: Bytes, faulted: bool) -> Step {
+fn step(at: (u32, u32, u32), op: Op, block: u64, bytes: SharedBytes, faulted: bool) -> Step {
     Step {
         hand: 0,
         session: at.0,
@@ -212,19 +213,19 @@ fn steps(alloc: Global) -> Result<Steps, Fail> {
             (1, 0, 0),
             Op::Write,
             34,
-            Bytes::copied(alloc, &[0xc1; 512])?,
+            SharedBytes::copied(alloc, &[0xc1; 512])?,
             false
         ),
         step(
             (1, 1, 0),
             Op::Read,
             35,
-            Bytes::copied(alloc, &[1, 255])?,
+            SharedBytes::copied(alloc, &[1, 255])?,
             false
         ),
-        step((1, 1, 1), Op::Read, 36, Bytes::empty(alloc), true),
-        step((1, 2, 0), Op::Trim, 40, Bytes::empty(alloc), false),
-        step((0, 0, 0), Op::Flush, 9, Bytes::empty(alloc), true),
+        step((1, 1, 1), Op::Read, 36, SharedBytes::empty(), true),
+        step((1, 2, 0), Op::Trim, 40, SharedBytes::empty(), false),
+        step((0, 0, 0), Op::Flush, 9, SharedBytes::empty(), true),
     ]?;
     Ok(list_of(alloc, steps)?)
 }

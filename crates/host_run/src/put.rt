@@ -1,4 +1,4 @@
-//! A piece of text, put whole into a sink that may take less than it is given.
+//! A piece of text, put whole where the sink takes only a part at each call.
 ghost use Rattle.std.specs.Prelude.{◌≡◌};
 ghost use Rattle.host_io.specs.Causes.{HasCause};
 ghost use Rattle.host_text.specs.Writing.{Writes};

@@ -28,8 +28,8 @@ use std::thread::Threads;
 
 /// Runs the words after the program's name. `run` plays the script on the image, with `--dry` on a copy of it in memory, and
 /// puts the text of the run; `load` plays a generated script as `run --dry` does, and puts the summary; `list` attaches the
-/// image without writes and puts the text of its table; `make` puts the text of a generated script. A call that is refused
-/// before its sessions begin puts one line, and keeps its status whether or not `out` takes it.
+/// image without writes and puts the text of its table; `make` puts the text of a generated script. A refusal puts one
+/// line, and its status is the same whether or not `out` takes that.
 pub fn run<'a, R: Threads + Wait + Sync, S: Source, D: Disk + Send, K: Sink, G: Gate + Sync>(
     rt: &R,
     alloc: Global,

@@ -71,10 +71,20 @@ fn has_named_group(request: &Request) -> bool
     named_bits(request) == 0 || request.group <= 7
 }
 
-fn named_request(opcode: Opcode, request: &Request) -> Request
-    ensures { result ≡ named_request opcode request.now }
+// The request with its reqid and the group that a line can name, and nothing else.
+fn bare_request(request: &Request) -> Request
+    ensures value { result ≡ record {
+      command = named_bits request.now;
+      reqid = request.now.reqid;
+      group = named_group request.now;
+      vmoid = 0;
+      length = 0;
+      vmo_offset = 0;
+      dev_offset = 0;
+    } }
+    ensures bound { result.command ≤ 0xc00 }
 {
-    let bare = Request {
+    Request {
         command: named_bits(request),
         reqid: request.reqid,
         group: named_group(request),
@@ -82,7 +92,13 @@ fn named_request(opcode: Opcode, request: &Request) -> Request
         length: 0,
         vmo_offset: 0,
         dev_offset: 0,
-    };
+    }
+}
+
+fn named_request(opcode: Opcode, request: &Request) -> Request
+    ensures { result ≡ named_request opcode request.now }
+{
+    let bare = bare_request(request);
     match opcode {
         Opcode::Read => Request {
             command: 1 + bare.command,

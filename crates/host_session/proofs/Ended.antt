@@ -152,10 +152,10 @@ module _ (s : ClientState) (k : IsClient s) (running : s.closed ≡ false) (i : 
         rings = record { sender = k.rings.sender; taker = k.rings.taker };
         log = k.log;
         told = subst (λ l. IsTold c s.plan.spec.size s.log l) whole (told_seen c s.plan.spec.size s.log h rest none (ap (entries_of (λ x. x.hand) c) whole ∙ own) k.told);
-        seen = t.known_is.1;
+        seen = omega (arith, t.known_is);
         ended = record { first = k.ended.first; turned = t.turned ∙ k.ended.turned; logged = k.ended.logged; last = k.ended.last; drained = λ _ b. absurd (cc (sym b ∙ running)); own = turned_own c s.intake_seat i t.intake_found [] t.turn k.intake_seat.number_is refl k.ended.own; running = λ _. unreleased; over = λ b. absurd (cc (sym b ∙ running)) };
         acts = k.acts;
-        course = subst (λ l. IsCourse s.log s.sender.pushed s.taker.taken l f k.acts) whole (course_seen s.log s.sender.pushed s.taker.taken h s.fronts k.acts k.course rest f none (record { device = omega arith; memory = t.known_is.0 }));
+        course = subst (λ l. IsCourse s.log s.sender.pushed s.taker.taken l f k.acts) whole (course_seen s.log s.sender.pushed s.taker.taken h s.fronts k.acts k.course rest f none (record { device = omega arith; memory = omega (arith, t.known_is) }));
         late = none_late c (seen_by i) (seen_by m) k.acts unreleased;
       }
 

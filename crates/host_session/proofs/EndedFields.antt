@@ -1,5 +1,5 @@
 -- The fields of a client end after an attempt to close its session, and what the attempt tells.
-use Rattle.std.proofs.Common.{◌≡◌, ℕ, ◌≤◌, Bool, true, false, not, ◌&&◌, ◌||◌, cond, nat_lt, List, [], ◌∷◌, ◌++◌, length, Option, Some, None, IsSome, refl, sym, ap, ap₂, subst, ◌∙◌, arith, append-nil}
+use Rattle.std.proofs.Common.{◌≡◌, ℕ, ◌≤◌, max, Bool, true, false, not, ◌&&◌, ◌||◌, cond, nat_lt, List, [], ◌∷◌, ◌++◌, length, Option, Some, None, IsSome, refl, sym, ap, ap₂, subst, ◌∙◌, arith, append-nil}
 use Rattle.std.proofs.lemmas.Bool.{ltb-false}
 use Rattle.std.proofs.lemmas.Bool.Decides.{nat_tests}
 use Rattle.atomic_table.specs.Seated.{TableId}
@@ -27,7 +27,6 @@ use Rattle.host_session.specs.Closing.{HasClosed, HasNotClosed, IsClosing, IsSti
 use Rattle.host_session.specs.Endings.{IsOver, is_undone, owed_count}
 use Rattle.host_session.specs.Kept.{IsClient}
 use Rattle.host_session.specs.Plan.{SessionPlan}
-use Rattle.host_session.proofs.Course.{within_refl}
 use Rattle.host_session.proofs.Ended.{is_over, kept_closed_after_abort, kept_closed_after_drain, kept_open}
 use Rattle.host_session.proofs.Requests.{requests_quiet}
 use Rattle.host_session.proofs.Snoc.{found_none}
@@ -64,13 +63,15 @@ waiting_answer s p k running waits = (
     turn = record { seat = ((refl, refl, refl, refl), k.intake_seat.outside); later = (prefix_refl (seen_by s.intake_seat), refl); left = sym (append-nil (seen_by s.intake_seat)) };
     same = ((refl, refl, refl, refl), k.memory_seat.outside);
     later = (prefix_refl (seen_by s.memory_seat), refl);
-    fronts = within_refl s.fronts;
     undone = waiting_bits (is_drained s.finish) (nat_lt (length (takings (seen_by s.intake_seat))) (length (sent s.log))) (nat_lt (length (received s.log)) (owed_count s.log))
         (nat_lt 0 (flights_in (seen_by s.intake_seat)) || nat_lt 0 (length (kept_slips (seen_by s.intake_seat))) || nat_lt 0 (length (pins_left (events (seen_by s.memory_seat))))) waits;
-    left = refl;
+    left = ap (λ (n : ℕ). record s { fronts = record { device = s.fronts.device; memory = n } }) known;
     pool = refl;
   },
 )
+  where
+    known : s.fronts.memory ≡ max s.fronts.memory (length (seen_by s.memory_seat))
+    known = omega (arith, k.seen)
 
 -- ---- how the session was to end
 
@@ -130,9 +131,9 @@ module _ (a : Inside) (k : IsKept a) (running : a.closed ≡ false) (i : IntakeS
         turn = t.turn;
         same = t.same;
         later = t.later;
-        fronts = record { device = omega arith; memory = t.known_is.0 };
         undone = undone_is a.finish a.log.items t.intake_found (seen_by m) wanted wanted_all answered_all ∙ t.unfinished;
-        left = ap₂ (λ (x y : TableId). record (client_state a) { plan = at_books (client_state a).plan x y; fronts = record { device = a.fronts.device; memory = known }; intake_seat = i; memory_seat = m }) t.turn.seat.0.0 t.same.0.0;
+        left = ap₂ (λ (x y : TableId). record (client_state a) { plan = at_books (client_state a).plan x y; fronts = record { device = a.fronts.device; memory = known }; intake_seat = i; memory_seat = m }) t.turn.seat.0.0 t.same.0.0
+            ∙ ap (λ (n : ℕ). record (client_state a) { fronts = record { device = a.fronts.device; memory = n }; intake_seat = i; memory_seat = m }) t.known_is;
         pool = t.pool;
       },
     )

@@ -25,6 +25,7 @@ use Rattle.host_record.specs.declared.finish.Finish.{Finish}
 use Rattle.host_record.specs.declared.finish.Finish.TheVariants.{Drain, Abort}
 use Rattle.host_model.specs.Pages.{found_by}
 use Rattle.host_turn.specs.History.{Continues, entries_of}
+use Rattle.host_turn.proofs.Histories.{prefix_refl}
 use Rattle.host_turn.specs.Seats.{IsOutside, IsSameSeat, number, seen_by}
 use Rattle.host_session.specs.Acts.{Act, AreLate, before_drained, fronts_after, is_drained}
 use Rattle.host_session.specs.Client.{IntakeSeat, phase_for}
@@ -157,9 +158,28 @@ module _ (client wanted front f : ℕ) (s s' : IntakeState) (m m' : MemorySeat) 
         later = subst (λ l. Continues (λ (e : MemEntry). e.hand) (number m) (seen_by m) l) (sym seen) r.visit.later;
         numbered = inr (subst (λ l. IsTrue (list_all (is_numbered client (client + 1)) l)) (sym seen) r.numbered);
         unfinished = pins_decide wanted s.entries (seen_by m') landed ∙ lt-ltb 0 (length (pins_left (events (seen_by m')))) (subst (λ l. 0 < length (pins_left (events l))) (sym seen) r.pin);
-        known_is = (omega (arith, f_is, r.visit.past, ap length seen, known_is), omega (arith, known_is));
+        known_is = omega (arith, f_is, r.visit.past, ap length seen, known_is);
         pool = r.pool;
       }
+
+unlanded_bits : (a b p t : Bool) → not (a || b || t) ≡ false → (a || b || p || t) ≡ true
+unlanded_bits true b p t e = refl
+unlanded_bits false true p t e = refl
+unlanded_bits false false true t e = refl
+unlanded_bits false false false true e = refl
+unlanded_bits false false false false e = absurd (cc e)
+
+-- a record isn't taken or landed, or an answer is kept: nothing is looked at
+pub unlanded_in_turn : (client wanted front : ℕ) (s : IntakeState) (m : MemorySeat) (p : PoolSeat) → is_landed wanted s.entries ≡ false → IsOutside m → length (seen_by m) ≤ front → IsOpenInTurn client wanted front s s m m p p front
+unlanded_in_turn client wanted front s m p landed outside within = record {
+  left = refl;
+  same = ((refl, refl, refl, refl), outside);
+  later = (prefix_refl (seen_by m), refl);
+  numbered = inl refl;
+  unfinished = unlanded_bits (nat_lt 0 (flights_in s.entries)) (nat_lt 0 (length (kept_slips s.entries))) (nat_lt 0 (length (pins_left (events (seen_by m))))) (nat_lt (length (takings s.entries)) wanted) landed;
+  known_is = omega (arith, within);
+  pool = refl;
+}
 
 -- ---- the turn from outside
 

@@ -83,7 +83,7 @@ pub record IsAttached (pages id : ℕ) (old new : ClientState) : Type 0 where
   pub visit : (found : List MemEntry) × IsVisit old.fronts.memory old.memory_seat new.memory_seat found (entry_by old.plan.hands (Attach id pages (length (sent old.log))) ∷ [])
   pub left : new ≡ with_event (with_visit old new.memory_seat) (Attached pages id)
 
--- What an attach answers, in this order: the end was ended or aborted; all ids were given; want of memory; too few frames.
+-- What an attach answers, in this order: the session was drained or aborted; all ids were given; want of memory; too few frames.
 abbrev pub IsAttachAnswer : ℕ → ℕ → ClientState → ClientState → PoolSeat → PoolSeat → Result ℕ AttachError → Type 0
 IsAttachAnswer frames pages old new seat seat' (Ok id) = (old.finish ≡ None) × IsAttached pages id old new × HasClaimed pages seat seat'
 IsAttachAnswer frames pages old new seat seat' (Err attach.Closed) = IsTrue (is_some old.finish) × (new ≡ old) × (seat' ≡ seat)
@@ -138,7 +138,7 @@ pub record HasThrown (sent : ℕ) (old new : SlipTakerState) : Type 0 where
   pub no_answers : AreNoAnswers sent thrown
   pub taken : new ≡ with_slips old thrown
 
--- There was none, and the ring was empty at a step of the call.
+-- There was none among those taken, and then nothing was found in the ring.
 pub record IsNoAnswer (sent : ℕ) (old new : SlipTakerState) : Type 0 where
   pub before : HasThrown sent old new
   pub empty : answers.FoundNone new

@@ -1,5 +1,5 @@
 -- What an attempt to close a session finds and leaves.
-use Rattle.std.specs.Prelude.{◌≡◌, ◌⊎◌, ℕ, ◌+◌, ◌≤◌, ◌<◌, max, Bool, true, false, not, ◌||◌, nat_lt, MatchBool, IsTrue, List, [], ◌∷◌, ◌++◌, length, map, Option, Some, None, MatchOption}
+use Rattle.std.specs.Prelude.{◌≡◌, ◌⊎◌, ℕ, ◌+◌, ◌<◌, max, Bool, true, false, not, ◌||◌, nat_lt, MatchBool, IsTrue, List, [], ◌∷◌, ◌++◌, length, map, Option, Some, None, MatchOption}
 use Rattle.std.specs.List.{list_all, sum_by}
 use Rattle.atomic_table.specs.Seated.{TableId}
 use Rattle.host_frames.specs.declared.seat.PoolSeat.{PoolSeat}
@@ -25,7 +25,7 @@ use Rattle.host_turn.specs.History.{Continues}
 use Rattle.host_turn.specs.Seats.{IsOutside, IsSameSeat, fixed_part, number, seen_by}
 use Rattle.host_session.specs.declared.finish.Attempt.{Attempt}
 use Rattle.host_session.specs.Calls.{IsTurn}
-use Rattle.host_session.specs.Client.{AreWithin, ClientState, IntakeSeat, phase_for}
+use Rattle.host_session.specs.Client.{ClientState, IntakeSeat, phase_for}
 use Rattle.host_session.specs.Endings.{is_undone}
 use Rattle.host_session.specs.Visits.{IsVisit, entry_by}
 
@@ -123,14 +123,14 @@ pub record IsClosedInTurn (client wanted front : ℕ) (s s' : IntakeState) (m m'
   pub done : is_unfinished wanted s.entries released.found ≡ false
   pub known_is : known ≡ length (seen_by m')
 
--- Something was left to do.
+-- Something was left to do. The front that is told is the greater of that known before and what the seat has seen.
 pub record IsOpenInTurn (client wanted front : ℕ) (s s' : IntakeState) (m m' : MemorySeat) (p p' : PoolSeat) (known : ℕ) : Type 0 where
   pub left : s' ≡ s
   pub same : IsSameSeat m m' × IsOutside m'
   pub later : Continues (λ e. e.hand) (number m) (seen_by m) (seen_by m')
   pub numbered : (seen_by m' ≡ seen_by m) ⊎ IsTrue (list_all (is_numbered client (client + 1)) (seen_by m'))
   pub unfinished : is_unfinished wanted s.entries (seen_by m') ≡ true
-  pub known_is : (front ≤ known) × (length (seen_by m') ≤ known)
+  pub known_is : known ≡ max front (length (seen_by m'))
   pub pool : p' ≡ p
 
 abbrev pub IsAttemptInTurn : ℕ → ℕ → ℕ → IntakeState → IntakeState → MemorySeat → MemorySeat → PoolSeat → PoolSeat → Attempt → Type 0
@@ -154,7 +154,7 @@ pub record HasNotClosed (client wanted front : ℕ) (i i' : IntakeSeat) (m m' : 
   pub later : Continues (λ e. e.hand) (number m) (seen_by m) (seen_by m')
   pub numbered : (seen_by m' ≡ seen_by m) ⊎ IsTrue (list_all (is_numbered client (client + 1)) (seen_by m'))
   pub unfinished : is_unfinished wanted intake_found (seen_by m') ≡ true
-  pub known_is : (front ≤ known) × (length (seen_by m') ≤ known)
+  pub known_is : known ≡ max front (length (seen_by m'))
   pub pool : p' ≡ p
 
 abbrev pub IsAttempt : ℕ → ℕ → ℕ → IntakeSeat → IntakeSeat → MemorySeat → MemorySeat → PoolSeat → PoolSeat → Attempt → Type 0
@@ -179,15 +179,19 @@ pub record IsClosing (old new : ClientState) (seat seat' : PoolSeat) : Type 0 wh
     memory_seat = new.memory_seat;
   }
 
--- It is still open: something was undone in what the seats have seen. Nothing was released.
+-- It is still open: something was undone in what the seats have seen. Nothing was released. The buffers' history is known
+-- to be as long as it was known to be before, or as its seat has seen it, and no longer.
 pub record IsStillOpen (old new : ClientState) (seat seat' : PoolSeat) : Type 0 where
   pub intake_found : List IntakeEntry
   pub turn : IsTurn old.intake_seat new.intake_seat intake_found []
   pub same : IsSameSeat old.memory_seat new.memory_seat × IsOutside new.memory_seat
   pub later : Continues (λ e. e.hand) (number old.memory_seat) (seen_by old.memory_seat) (seen_by new.memory_seat)
-  pub fronts : AreWithin old.fronts new.fronts
   pub undone : is_undone old.finish old.log intake_found (seen_by new.memory_seat) ≡ true
-  pub left : new ≡ record old { fronts = new.fronts; intake_seat = new.intake_seat; memory_seat = new.memory_seat }
+  pub left : new ≡ record old {
+    fronts = record { device = old.fronts.device; memory = max old.fronts.memory (length (seen_by new.memory_seat)) };
+    intake_seat = new.intake_seat;
+    memory_seat = new.memory_seat;
+  }
   pub pool : seat' ≡ seat
 
 -- Is the session closed now? Once it is, nothing changes any more.

@@ -68,7 +68,7 @@ impl ClientEnd {
         cause
     }
 
-    /// Writes one value into all bytes of these blocks. False where the buffer has no pages or the blocks aren't within them.
+    /// Writes one value into all bytes of these blocks. False where the buffer has no pages, or not all of these.
     pub fn fill<R: Wait>(
         &mut self,
         rt: &R,
@@ -100,7 +100,7 @@ impl ClientEnd {
         done
     }
 
-    /// Copies these blocks into `into`, which goes into the log. False where the buffer has no pages or the blocks aren't within them.
+    /// Copies these blocks into `into`, which goes into the log. False where the buffer has no pages, or not all of these.
     pub fn show<R: Wait>(
         &mut self,
         rt: &R,

@@ -49,7 +49,7 @@ module _ {D : Type 0} {g : disk.Ghosts D} where
   abbrev pub pool_seats_of : List (Hand D g) → List PoolSeat
   pool_seats_of hands = map (λ hand. hand.pool_seat) hands
 
-  -- Every claim of the hands' seats was made by an attach of one of the clients, and the pages given back with these seats
+  -- The hands' seats keep no claims but those that the clients' attaches made, and the pages given back with these seats
   -- are as many as the clients and hands took out of buffers.
   pub record AreAccounted (hands : List (Hand D g)) (clients : List ClientState) : Type 0 where
     pub granted_are : total granted (pool_seats_of hands) ≡ sum_by pages_attached clients

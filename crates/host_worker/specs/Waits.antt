@@ -24,7 +24,7 @@ KeepsRoom old new = (more : ℕ) → HasRoom more old → HasRoom more new
 abbrev pub KeepsRoomBut : ℕ → ClientState → ClientState → Type 0
 KeepsRoomBut less old new = (more : ℕ) → HasRoom (more + less) old → HasRoom more new
 
--- the client is neither ended nor aborted, and its log has such room
+-- the client hasn't drained or aborted, and its log has such room
 pub record MayWait (more : ℕ) (client : ClientState) : Type 0 where
   pub open_still : client.finish ≡ None
   pub room : HasRoom more client

@@ -12,7 +12,7 @@ use host_io::Disk;
 use host_report::{Closing, Report};
 use std::snapshot::Snapshot;
 
-/// Says that a report was gathered from a server that was started and finished. It has no other maker.
+/// Shows that a report comes from a finished server. Only `gather` makes one.
 #[derive(Drop)]
 pub struct Served {
     report: Snapshot<Report>,

@@ -9,10 +9,10 @@ ghost use Rattle.host_memory.specs.State.{history};
 ghost use Rattle.memory_client.specs.Played.{IsPlayed};
 
 use crate::done::{has_block, is_first_pin, is_open, is_pinned};
-use host_block::{BlockSize, Bytes, Oom};
+use host_block::{BlockSize, Oom};
 use host_frames::{Pages, Pool, PoolSeat};
 use host_memory::Memory;
-use host_model::MemEvent;
+use host_model::{MemEvent, SharedBytes};
 use std::alloc::Global;
 
 /// How many pages each buffer has.
@@ -46,15 +46,6 @@ pub struct Carried {
     pub hand: u32,
     pub index: u32,
     pub id: u16,
-}
-
-// The bytes of `from`, kept in as many others.
-fn with_bytes(mut keep: Bytes, from: &[u8]) -> Bytes
-    requires { length keep ≡ length from.now }
-    ensures { result ≡ from.now }
-{
-    keep.as_mut_slice().copy_from_slice(from);
-    keep
 }
 
 /// Claims the pages of a buffer, unless too few frames are free.
@@ -212,19 +203,18 @@ impl Player {
         ensures plan { self.new.memory.plan ≡ self.old.memory.plan }
     {
         let Carried { hand, index, id } = *record;
-        let keep = Bytes::zeroed(alloc, 512)?;
-        let copy = Bytes::zeroed(alloc, 512)?;
         self.memory.make_room(1)?;
         if !self.has_room() || !self.is_pinned(record) || !self.has_block(id, block) {
             return Ok(false);
         }
-        self.memory.lift(hand, index, 0, id, block, keep, into);
+        let bytes = self.memory.lift(alloc, hand, index, 0, id, block)?;
+        into.copy_from_slice(bytes.as_slice());
         self.done.push_reserved(MemEvent::Lift {
             index,
             k: 0,
             id,
             block,
-            bytes: with_bytes(copy, into),
+            bytes,
         });
         Ok(true)
     }
@@ -241,8 +231,8 @@ impl Player {
         ensures plan { self.new.memory.plan ≡ self.old.memory.plan }
     {
         let Carried { hand, index, id } = *record;
-        let keep = Bytes::copied(alloc, from)?;
-        let bytes = Bytes::copied(alloc, from)?;
+        let keep = SharedBytes::copied(alloc, from)?;
+        let bytes = keep.share()?;
         self.memory.make_room(1)?;
         if !self.has_room() || !self.is_pinned(record) || !self.has_block(id, block) {
             return Ok(false);

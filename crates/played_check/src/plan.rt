@@ -25,7 +25,7 @@ pub enum Ask {
     },
     /// Until each answer that is owed was received.
     WaitAll,
-    /// Until so many answers were received in all.
+    /// Until the session has had so many answers.
     WaitFor {
         total: u64,
     },

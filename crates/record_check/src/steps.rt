@@ -2,15 +2,14 @@
 ghost use Rattle.std.specs.Prelude.{◌≡◌, ◌==◌, ◌++◌, [], ◌∷◌, filter, if◌then◌else◌, IfOk, OnOk};
 ghost use Rattle.host_model.specs.Carrying.{steps_of};
 
-use host_block::{Bytes, Oom};
+use host_block::Oom;
 use host_model::Step;
 use std::alloc::Global;
 
 // A step like this one.
-fn copy_of(alloc: Global, step: &Step) -> Result<Step, Oom>
+fn copy_of(step: &Step) -> Result<Step, Oom>
     ensures { IfOk result (λ s. s ≡ step.now) }
 {
-    let bytes = Bytes::copied(alloc, step.bytes.as_slice())?;
     Ok(Step {
         hand: step.hand,
         session: step.session,
@@ -18,17 +17,17 @@ fn copy_of(alloc: Global, step: &Step) -> Result<Step, Oom>
         k: step.k,
         op: step.op,
         block: step.block,
-        bytes,
+        bytes: step.bytes.share()?,
         faulted: step.faulted,
     })
 }
 
 /// Adds a copy of the step, where it is wanted.
-pub fn push_if(list: &mut Vec<Step>, alloc: Global, step: &Step, wanted: bool) -> Result<(), Oom>
+pub fn push_if(list: &mut Vec<Step>, step: &Step, wanted: bool) -> Result<(), Oom>
     ensures { OnOk result (list.new.items ≡ list.old.items ++ (if wanted then step.now ∷ [] else [])) }
 {
     if wanted {
-        let step = copy_of(alloc, step)?;
+        let step = copy_of(step)?;
         if list.push(step).is_err() {
             return Err(Oom);
         }
@@ -43,7 +42,7 @@ pub fn session_steps(alloc: Global, steps: &[Step], number: u32) -> Result<Vec<S
 {
     let mut list = Vec::new(alloc);
     for step in steps {
-        push_if(&mut list, alloc, step, step.session == number)?;
+        push_if(&mut list, step, step.session == number)?;
     }
     Ok(list)
 }
@@ -55,7 +54,7 @@ pub fn record_steps(alloc: Global, steps: &[Step], i: usize) -> Result<Vec<Step>
 {
     let mut list = Vec::new(alloc);
     for step in steps {
-        push_if(&mut list, alloc, step, step.index as usize == i)?;
+        push_if(&mut list, step, step.index as usize == i)?;
     }
     Ok(list)
 }

@@ -1,3 +1,11 @@
-pub mod Words
+pub mod BadScript
+pub mod Crash
+pub mod Drive
+pub mod Headline
 pub mod Lines
+pub mod NoTable
 pub mod Reports
+pub mod Script
+pub mod Words
+pub mod WrongEnds
+pub mod WrongRuns

@@ -1,3 +1,10 @@
+pub mod BadScript
+pub mod Drive
+pub mod Headline
 pub mod Lines
+pub mod NoTable
 pub mod Reports
+pub mod Run
 pub mod Words
+pub mod WrongEnds
+pub mod WrongRuns

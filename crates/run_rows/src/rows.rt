@@ -1,7 +1,12 @@
 //! Rows that are written out.
+ghost use Rattle.run_rows.specs.BadScript.{BadScriptIsTold};
+ghost use Rattle.run_rows.specs.Headline.{RunHasHeadline};
 ghost use Rattle.run_rows.specs.Lines.{RefusalsHaveLines};
+ghost use Rattle.run_rows.specs.NoTable.{NoTableIsTold};
 ghost use Rattle.run_rows.specs.Reports.{StatusesComeWithReports};
 ghost use Rattle.run_rows.specs.Words.{WordsAskForRuns};
+ghost use Rattle.run_rows.specs.WrongEnds.{WrongEndsAreRefused};
+ghost use Rattle.run_rows.specs.WrongRuns.{WrongRunsAreRefused};
 
 /// What the words of a call ask for.
 pub fn words_ask_for_runs()
@@ -16,4 +21,29 @@ pub fn refusals_have_lines()
 /// Which statuses come with a report, and with a copy.
 pub fn statuses_come_with_reports()
     ensures { StatusesComeWithReports }
+{}
+
+/// A run of one session has the headline, and leaves what a run leaves.
+pub fn a_run_has_its_headline()
+    ensures { RunHasHeadline }
+{}
+
+/// Runs that differ from it in one thing haven't, each by one field.
+pub fn wrong_runs_are_refused()
+    ensures { WrongRunsAreRefused }
+{}
+
+/// What the run can't leave: another end, a part of its text, a closing flush that wasn't asked for.
+pub fn wrong_ends_are_refused()
+    ensures { WrongEndsAreRefused }
+{}
+
+/// A run whose script has a bad line ends with status 4, that line and its cause, and with nothing else.
+pub fn a_bad_script_is_told()
+    ensures { BadScriptIsTold }
+{}
+
+/// A run on an image without a table ends with status 3, and one on an image that has a table doesn't.
+pub fn a_missing_table_is_told()
+    ensures { NoTableIsTold }
 {}

@@ -43,7 +43,7 @@ request_line x n =
     let e = next c in
     Send (request_bytes (request_from n (drawn a) (drawn b) (drawn c) (drawn e)))
 
--- a wait follows each request whose n + 1 is a multiple of 16, and the last
+-- a wait comes after every sixteenth request of a session, and after its last one
 abbrev pub waits : ℕ → ℕ → List ScriptLine
 waits n left = if (n + 1) % 16 == 0 || left == 0 then WaitAll ∷ [] else []
 

@@ -17,7 +17,7 @@ digits_after n (b ∷ bs) = if is_digit b then digits_after (n * 10 + (b - 48)) 
 unfoldable pub decimal_value : List ℕ → Option ℕ
 decimal_value word = if nat_le 1 (length word) && nat_le (length word) 20 then digits_after 0 word else None
 
--- a value in the range of its place
+-- a value from low to high, both among them
 abbrev pub in_range : ℕ → ℕ → Option ℕ → Result ℕ ScriptCause
 in_range low high None = Err BadNumber
 in_range low high (Some n) = if nat_le low n && nat_le n high then Ok n else Err BadNumber

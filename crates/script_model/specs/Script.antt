@@ -10,7 +10,7 @@ use Rattle.script_model.specs.Draft.{Draft, nothing_yet, added, plans, meaning}
 use Rattle.script_model.specs.Plans.{SessionPlan, plans_of}
 use Rattle.script_model.specs.Words.{words}
 
--- the draft after a line; a line without words is skipped
+-- the draft after a line, which is as before where the line has no word
 abbrev pub after_statement : Draft → Result Statement ScriptCause → Result Draft ScriptCause
 after_statement d (Ok s) = Ok (added d s)
 after_statement d (Err cause) = Err cause

@@ -7,14 +7,14 @@ pub enum ScriptLine {
     Attach {
         pages: u32,
     },
-    /// Sets every byte of `count` blocks from `block` on.
+    /// Fills `count` blocks of the buffer with one value; the first is `block`.
     Fill {
         id: u16,
         block: u32,
         count: u32,
         byte: u8,
     },
-    /// Puts the bytes of `count` blocks from `block` on into the log.
+    /// Copies `count` blocks of the buffer into the log; the first is `block`.
     Show {
         id: u16,
         block: u32,
@@ -24,9 +24,9 @@ pub enum ScriptLine {
     Send {
         bytes: [u8; 32],
     },
-    /// Receives until every answer owed by the records so far was received.
+    /// Waits for all answers that the records before it owe.
     WaitAll,
-    /// Receives until so many answers were received in all.
+    /// Waits until the session has had so many answers.
     WaitFor {
         total: u32,
     },

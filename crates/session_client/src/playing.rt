@@ -85,7 +85,7 @@ fn perform<R: Wait>(
     }
 }
 
-// Sends a record. While the ring is full the client receives what is there.
+// Sends a record. Where it comes back, an answer is received and it is tried again.
 fn send<R: Wait>(rt: &R, shared: &SessionShared, caller: &mut Caller, request: &Request)
     requires shared { IsShared caller.old.client.plan shared.now }
     ensures shared { IsShared caller.new.client.plan shared.now }

@@ -12,9 +12,9 @@ use Rattle.host_session.specs.Client.{AreWithin, slip_fronts}
 abbrev pub envelope_fronts : Envelope → Fronts
 envelope_fronts e = record { device = e.device_front; memory = e.memory_front }
 
--- The fronts known after an act are no smaller than those known after any act before it. So an envelope has fronts that
--- are no smaller than those of each slip received before it was sent, and its memory front is past the client's own
--- entries so far; and an entry stands at a place not below the memory fronts of the slips received before it.
+-- From act to act a client end only knows more of both histories. An envelope carries what is known when it is sent: so it
+-- reaches as far as the slips that came earlier, and past all that the client has entered by then. No entry of the client
+-- goes before what it knew after an earlier act.
 pub record DoFrontsRise (acts : List Act) : Type 0 where
   pub known : (m n : ℕ) (a b : Act) → slice_get acts m ≡ Some a → slice_get acts n ≡ Some b → m ≤ n → AreWithin a.fronts b.fronts
   pub sent : (n : ℕ) (b : Act) (e : Envelope) → slice_get acts n ≡ Some b → b.envelope ≡ Some e → envelope_fronts e ≡ b.fronts

@@ -6,7 +6,9 @@ use super::lists::{Act, Call, Entry, Lists};
 use super::{groups, transfers};
 use host_block::{BlockSize, Bytes, Oom, Op, Range, ReservedList};
 use host_gpt::Which;
-use host_model::{Event, Events, MemEntries, MemEntry, MemEvent, Step, Steps, TakenRow, TakenRows};
+use host_model::{
+    Event, Events, MemEntries, MemEntry, MemEvent, SharedBytes, Step, Steps, TakenRow, TakenRows,
+};
 use host_record::{Request, Response};
 use host_report::{Closing, Report, SessionReport};
 use std::alloc::Global;
@@ -22,14 +24,19 @@ pub const SESSIONS: [Lists; 6] = [
 ];
 
 // Blocks, of which each has one byte 512 times.
-fn blocks(alloc: Global, bytes: &[u8]) -> Result<Bytes, Fail> {
+fn blocks(alloc: Global, bytes: &[u8]) -> Result<Vec<u8>, Fail> {
     let mut all = Vec::new(alloc);
     for byte in bytes {
         for _ in 0..512 {
             all.push(*byte)?;
         }
     }
-    Ok(Bytes::copied(alloc, &all)?)
+    Ok(all)
+}
+
+// Those of a step or an entry.
+fn shared(alloc: Global, bytes: &[u8]) -> Result<SharedBytes, Fail> {
+    Ok(SharedBytes::copied(alloc, &blocks(alloc, bytes)?)?)
 }
 
 /// The bytes of a request.
@@ -86,7 +93,7 @@ fn event(alloc: Global, call: Call) -> Result<Event, Fail> {
             block,
             count: bytes.len().min(9) as u32,
             done: true,
-            bytes: blocks(alloc, bytes)?,
+            bytes: Bytes::copied(alloc, &blocks(alloc, bytes)?)?,
         },
         Call::Drain => Event::Drained,
         Call::Abort => Event::Aborted,
@@ -109,14 +116,14 @@ fn entry(alloc: Global, entry: Entry) -> Result<MemEntry, Fail> {
             k,
             id,
             block,
-            bytes: blocks(alloc, &[byte])?,
+            bytes: shared(alloc, &[byte])?,
         },
         Entry::Land(index, k, id, block, byte) => MemEvent::Land {
             index,
             k,
             id,
             block,
-            bytes: blocks(alloc, &[byte])?,
+            bytes: shared(alloc, &[byte])?,
         },
         Entry::Done(index, id) => MemEvent::Done { index, id },
         Entry::Release(id) => MemEvent::Release { id },
@@ -132,7 +139,7 @@ fn step(alloc: Global, session: u32, act: Act) -> Result<Step, Fail> {
         k: act.1,
         op: act.2,
         block: act.3,
-        bytes: blocks(alloc, act.4)?,
+        bytes: shared(alloc, act.4)?,
         faulted: act.5,
     })
 }
@@ -189,7 +196,7 @@ fn add_steps(steps: &mut Steps, alloc: Global, lists: &Lists, case: &Case) -> Re
     Ok(())
 }
 
-fn closing_flush(alloc: Global) -> Step {
+fn closing_flush() -> Step {
     Step {
         hand: 0,
         session: 0,
@@ -197,7 +204,7 @@ fn closing_flush(alloc: Global) -> Step {
         k: 0,
         op: Op::Flush,
         block: 0,
-        bytes: Bytes::empty(alloc),
+        bytes: SharedBytes::empty(),
         faulted: false,
     }
 }
@@ -216,7 +223,7 @@ pub fn report(alloc: Global, case: &Case) -> Result<Report, Fail> {
         add_steps(&mut steps, alloc, lists, changes)?;
     }
     for _ in 0..case.flushes {
-        add(&mut steps, closing_flush(alloc))?;
+        add(&mut steps, closing_flush())?;
     }
     Ok(Report {
         blocks: 128,

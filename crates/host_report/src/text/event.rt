@@ -1,9 +1,9 @@
 // The lines of a client's log.
-ghost use Rattle.std.specs.Prelude.{◌≡◌};
+ghost use Rattle.std.specs.Prelude.{◌≡◌, [], ◌∷◌, codes, decimal};
 ghost use Rattle.host_record.specs.Response.{response_fields};
 ghost use Rattle.host_report.specs.LogText.{answer_line, block_of, cause_word, event_line, event_text, shown_lines, shown_text};
 ghost use Rattle.host_text.specs.Printed.{printed};
-ghost use Rattle.host_report.specs.Words.{yes_or_no};
+ghost use Rattle.host_report.specs.Words.{inner, yes_or_no};
 ghost use Rattle.host_text.specs.Writing.{Puts};
 
 use byteorder::{ByteOrder, LittleEndian};
@@ -53,19 +53,7 @@ fn write_event_line<K: Sink>(event: &Event, held: &mut Held, out: &mut K) -> Res
             count,
             byte,
             done,
-        } => put_line(
-            b"  ",
-            &[
-                Word::Text(b"fill"),
-                Word::Number(*id as u64),
-                Word::Number(*block as u64),
-                Word::Number(*count as u64),
-                Word::Byte(*byte),
-                yes_or_no_word(*done),
-            ],
-            held,
-            out,
-        ),
+        } => write_filled(*id, *block, *count, *byte, *done, held, out),
         Event::Sent { index, bytes } => write_sent(*index, bytes, held, out),
         Event::Received { bytes } => write_answer(answer_in(bytes), held, out),
         Event::Shown {
@@ -74,18 +62,7 @@ fn write_event_line<K: Sink>(event: &Event, held: &mut Held, out: &mut K) -> Res
             count,
             done,
             ..
-        } => put_line(
-            b"  ",
-            &[
-                Word::Text(b"show"),
-                Word::Number(*id as u64),
-                Word::Number(*block as u64),
-                Word::Number(*count as u64),
-                yes_or_no_word(*done),
-            ],
-            held,
-            out,
-        ),
+        } => write_show(*id, *block, *count, *done, held, out),
         Event::Drained => put_line(b"  ", &[Word::Text(b"drained")], held, out),
         Event::Aborted => put_line(b"  ", &[Word::Text(b"aborted")], held, out),
     }
@@ -145,6 +122,28 @@ fn yes_or_no_word<'a>(yes: bool) -> Word<'a>
     }
 }
 
+fn write_filled<K: Sink>(
+    id: u16,
+    block: u32,
+    count: u32,
+    byte: u8,
+    done: bool,
+    held: &mut Held,
+    out: &mut K,
+) -> Result<(), SinkFailed>
+    ensures { Puts K.tells K.faults K.appended out.old held.old out.new held.new (event_line (Event.Filled id block count byte done)) result }
+{
+    let words = [
+        Word::Text(b"fill"),
+        Word::Number(id as u64),
+        Word::Number(block as u64),
+        Word::Number(count as u64),
+        Word::Byte(byte),
+        yes_or_no_word(done),
+    ];
+    put_line(b"  ", &words, held, out)
+}
+
 fn write_sent<K: Sink>(
     index: u32,
     bytes: &[u8; 32],
@@ -186,6 +185,27 @@ fn write_answer<K: Sink>(answer: Response, held: &mut Held, out: &mut K) -> Resu
         Word::Number(answer.group as u64),
         Word::Text(b"count"),
         Word::Number(answer.count as u64),
+    ];
+    put_line(b"  ", &words, held, out)
+}
+
+// Puts the line that stands above the blocks that were shown.
+fn write_show<K: Sink>(
+    id: u16,
+    block: u32,
+    count: u32,
+    done: bool,
+    held: &mut Held,
+    out: &mut K,
+) -> Result<(), SinkFailed>
+    ensures { Puts K.tells K.faults K.appended out.old held.old out.new held.new (inner (codes "show" ∷ decimal id ∷ decimal block ∷ decimal count ∷ yes_or_no done ∷ [])) result }
+{
+    let words = [
+        Word::Text(b"show"),
+        Word::Number(id as u64),
+        Word::Number(block as u64),
+        Word::Number(count as u64),
+        yes_or_no_word(done),
     ];
     put_line(b"  ", &words, held, out)
 }

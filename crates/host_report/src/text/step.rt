@@ -57,7 +57,7 @@ fn write_with_bytes<K: Sink>(step: &Step, held: &mut Held, out: &mut K) -> Resul
         word_of_op(step.op),
         Word::Number(shown_block(step.op, step.block)),
         word_of_fault(step.faulted),
-        Word::Stored(&step.bytes),
+        Word::Block(step.bytes.as_slice()),
     ];
     put_line(b"  ", &words, held, out)
 }

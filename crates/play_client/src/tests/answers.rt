@@ -85,7 +85,7 @@ const SMALL_BUFFER: Case = Case {
     ..EMPTY
 };
 
-// The pool has 4,096 pages. A refused attach uses no id.
+// The pool has 4,096 pages. Where there are too few, the id goes to the next attach.
 const POOL: Case = Case {
     text: Text::Whole("session 1\nattach 4000\nattach 200\nattach 1\n"),
     lines: &["  attach 4000 id 1\n  attach 200 no-frames\n  attach 1 id 2\n"],

@@ -10,15 +10,15 @@ use Rattle.device_client.proofs.pair.work_all.Lts as lts
 use Rattle.device_client.proofs.pair.work_all.Goals as goal
 use Rattle.device_client.specs.contracts.pair.work_all as work_all
 
-hand_send : (g : given.Over) (κs : Lfts 10) → IsSend (work_all.D-row g.row.D g.row.R)
+hand_send : (g : given.Over) (κs : Lfts 11) → IsSend (work_all.D-row g.row.D g.row.R)
     → IsSend (param 1 (lts.arg-0-1 g.row.D g.row.R g.D.laws g.R.laws g.D.Disk g.D.Disk-dict g.R.Threads g.R.Threads-dict g.R.Wait g.R.Wait-dict g.D.Destruct-dict κs))
 hand_send g κs s = search (sendable, hand_row_send) depth 15
 
-seat_send : (g : given.Over) (κs : Lfts 10) → IsSend (work_all.D-row g.row.D g.row.R)
+seat_send : (g : given.Over) (κs : Lfts 11) → IsSend (work_all.D-row g.row.D g.row.R)
     → IsSend (param 2 (lts.arg-0-2 g.row.D g.row.R g.D.laws g.R.laws g.D.Disk g.D.Disk-dict g.R.Threads g.R.Threads-dict g.R.Wait g.R.Wait-dict g.D.Destruct-dict κs))
 seat_send g κs s = search (sendable, device_send, table_seat_send) depth 20
 
-work_sync : (g : given.Over) (κs : Lfts 10) → IsSend (work_all.D-row g.row.D g.row.R) → IsSync (work_all.R-row g.row.D g.row.R)
+work_sync : (g : given.Over) (κs : Lfts 11) → IsSend (work_all.D-row g.row.D g.row.R) → IsSync (work_all.R-row g.row.D g.row.R)
     → IsSync (param 4 (lts.arg-0-4 g.row.D g.row.R g.D.laws g.R.laws g.D.Disk g.D.Disk-dict g.R.Threads g.R.Threads-dict g.R.Wait g.R.Wait-dict g.D.Destruct-dict κs))
 work_sync g κs s y = search (sendable, crosses, device_send, table_sync, lease_sync) depth 40
 

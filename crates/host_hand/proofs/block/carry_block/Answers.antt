@@ -13,5 +13,5 @@ returns-in-Trim-clause-run g c =
     let r = c.step_at in
     let h = seen_by c.args.memory_seat.now in
     subst (λ (o : Op). HasRun e o c.args.k (ask_at e o c.args.k ∷ []) r.result h h (seen_by c.args.device_seat.now) (seen_by r.new.seat)) (sym c.in-Trim.is)
-    (trimmed e c.args.k r.result (seen_by c.args.device_seat.now) (seen_by r.new.seat) r.ensures.front r.new.bytes h
-    (on_block e c.args.k c.block.result Trim r.new.bytes r.result.answer r.result.front (seen_by c.args.device_seat.now) (seen_by r.new.seat) c.block.ensures r.ensures.step))
+    (trimmed e c.args.k r.result (seen_by c.args.device_seat.now) (seen_by r.new.seat) r.ensures.front c.empty.result h
+    (on_block e c.args.k c.block.result Trim c.empty.result r.result.answer r.result.front (seen_by c.args.device_seat.now) (seen_by r.new.seat) c.block.ensures r.ensures.step))

@@ -1,35 +1,46 @@
-use Rattle.std.proofs.Common.{◌≡◌, ◌++◌, ◌∷◌, [], length, sym, ap, ◌∙◌, arith}
+use Rattle.std.proofs.Common.{◌≡◌, ◌++◌, ◌∷◌, [], ℕ, List, Result, Ok, Err, length, refl, ap, subst, ◌∙◌, arith}
+use Rattle.std.specs.Prelude.{IfOk}
 use Rattle.host_block.specs.declared.op.Op.TheVariants.{Read}
+use Rattle.host_device.specs.declared.error.StepError.{StepError}
+use Rattle.host_device.specs.Entries.{answer_alone, entries_added, entry_of}
 use Rattle.host_memory.specs.State.{MemoryState}
 use Rattle.host_model.specs.declared.memory.MemEvent.TheVariants.{Land}
+use Rattle.host_model.specs.declared.step.Step.{Step}
 use Rattle.host_turn.specs.Seats.{seen_by}
 use Rattle.host_hand.specs.Errands.{ask_at}
-use Rattle.host_hand.proofs.BlockSeats.{is_err_of, is_ok_of}
-use Rattle.host_hand.proofs.BlockTurns.{all_written, failed_in_turn, landed_in_turn, on_block, refused_in_turn}
-use Rattle.host_hand.proofs.block.read_in_turn.Goals.{then-is_ok, else-is_ok}
+use Rattle.host_hand.specs.Growth.{HasGrown}
+use Rattle.host_hand.proofs.BlockTurns.{failed_in_turn, landed_in_turn, on_block, refused_in_turn}
 use Rattle.host_hand.proofs.block.read_in_turn.Goals as goal
 
 pub returns-in_default-clause-run : goal.returns-in_default-clause-run
 returns-in_default-clause-run g c =
     let e = c.args.errand.now in
-    refused_in_turn e Read c.args.k (ask_at e Read c.args.k) c.refused.result c.args.front c.args.memory.now.entries c.room_for_move.new.memory.entries (seen_by c.args.device_seat.now) c.refused.ensures c.requires.front
-    (ap (λ (s : MemoryState). s.entries) c.room_for_move.ensures.same)
+    refused_in_turn e Read c.args.k (ask_at e Read c.args.k) c.refused.result c.args.front c.args.memory.now.entries c.room_to_land.new.memory.entries (seen_by c.args.device_seat.now) c.refused.ensures c.requires.front
+    (ap (λ (s : MemoryState). s.entries) c.room_to_land.ensures.same)
+
+pub returns-in-Ok-answer-clause-run : goal.returns-in-Ok-answer-clause-run
+returns-in-Ok-answer-clause-run g c =
+    let e = c.args.errand.now in
+    let r = c.read_at-read in
+    let w = r.new.into in
+    let s = seen_by c.args.device_seat.now in
+    let u = seen_by r.new.seat in
+    let mid = c.room_to_land.new.memory.entries in
+    let is : c.in-Ok-answer.bytes ≡ w = subst (λ (a : Result (List ℕ) StepError). IfOk a (λ bytes. bytes ≡ w)) c.in-Ok-answer.is r.ensures.bytes in
+    let step = subst (λ (a : Result (List ℕ) StepError). HasGrown (λ (y : Step). y.hand) e.hand e.device_front r.result.front (entries_added (answer_alone a) (entry_of e.hand e.session e.index c.args.k Read c.block.result w)) s u) c.in-Ok-answer.is r.ensures.step in
+    landed_in_turn e c.args.k c.args.page (record { answer = Ok tt; front = r.result.front }) tt w c.args.memory.now.entries mid c.land.new.self.entries s u refl
+    (on_block e c.args.k c.block.result Read w (Ok tt) r.result.front s u c.block.ensures step) r.ensures.front c.requires.page.1
+    (ap (λ (s : MemoryState). s.entries) c.room_to_land.ensures.same)
+    (c.land.ensures.entry ∙ ap (λ b. mid ++ record { hand = e.hand; what = Land e.index c.args.k e.request.vmoid c.args.page b } ∷ []) is)
 
 pub returns-clause-run : goal.returns-clause-run
 returns-clause-run g c =
     let e = c.args.errand.now in
-    let r = c.step_at-run in
-    let w = r.new.bytes in
-    let same = ap (λ (s : MemoryState). s.entries) c.room_for_move.ensures.same in
-    let mid = c.room_for_move.new.memory.entries in
-    let step = on_block e c.args.k c.block.result Read w r.result.answer r.result.front (seen_by c.args.device_seat.now) (seen_by r.new.seat) c.block.ensures r.ensures.step in
-    elim c.if-is_ok.branch [
-      | then-is_ok t ↦
-          let long : length w ≡ length c.in-Ok.bytes = omega (arith, r.auto.bytes, ap length c.as_mut_slice.ensures.value) in
-          landed_in_turn e c.args.k c.args.page r.result tt w c.args.memory.now.entries mid c.if-is_ok.memory.entries (seen_by c.args.device_seat.now) (seen_by r.new.seat) (is_ok_of r.result.answer (sym c.is_ok.ensures.value ∙ t.if-is_ok.true)) step r.ensures.front c.requires.page.1 same
-          (ap (λ (s : MemoryState). s.entries) t.memory-is ∙ (t.land.ensures.entry ∙ ap (λ b. mid ++ record { hand = e.hand; what = Land e.index c.args.k e.request.vmoid c.args.page b } ∷ []) (all_written c.in-Ok.bytes w long)))
-      | else-is_ok t ↦
-          let err = is_err_of r.result.answer (sym c.is_ok.ensures.value ∙ t.if-is_ok.false) in
-          failed_in_turn e c.args.k r.result err.0 w c.args.memory.now.entries c.if-is_ok.memory.entries (seen_by c.args.device_seat.now) (seen_by r.new.seat) err.1 step r.ensures.front
-          (ap (λ (s : MemoryState). s.entries) t.memory-is ∙ same)
-    ]
+    let r = c.read_at-read in
+    let w = r.new.into in
+    let s = seen_by c.args.device_seat.now in
+    let u = seen_by r.new.seat in
+    let step = subst (λ (a : Result (List ℕ) StepError). HasGrown (λ (y : Step). y.hand) e.hand e.device_front r.result.front (entries_added (answer_alone a) (entry_of e.hand e.session e.index c.args.k Read c.block.result w)) s u) c.in-Err.is r.ensures.step in
+    failed_in_turn e c.args.k (record { answer = Err c.in-Err.error; front = r.result.front }) c.in-Err.error w c.args.memory.now.entries c.room_to_land.new.memory.entries s u refl
+    (on_block e c.args.k c.block.result Read w (Err c.in-Err.error) r.result.front s u c.block.ensures step) r.ensures.front
+    (ap (λ (s : MemoryState). s.entries) c.room_to_land.ensures.same)

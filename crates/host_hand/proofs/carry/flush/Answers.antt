@@ -1,4 +1,4 @@
-use Rattle.std.proofs.Common.{sym, subst}
+use Rattle.std.proofs.Common.{sym, subst, arith}
 use Rattle.host_block.specs.declared.op.Op.TheVariants.{Flush}
 use Rattle.host_device.specs.Entries.{entries_added, entry_of}
 use Rattle.host_turn.specs.Seats.{seen_by}
@@ -13,9 +13,9 @@ pub returns-clause-carried : goal.returns-clause-carried
 returns-clause-carried g c = λ pool h.
     let e = c.args.errand.now in
     let r = c.step_at-run.result in
-    let bytes = c.step_at-run.new.bytes in
+    let bytes = c.empty.result in
     let s = seen_by c.args.device_seat.now in
     let u = seen_by c.step_at-run.new.seat in
     subst (λ (x : Carried). HasCarried e work.Flush pool x h h s u) (sym c.end_of.ensures)
     (flush_carried e pool r (entries_added r.answer (entry_of e.hand e.session e.index 0 Flush 0 bytes)) h s u c.requires.kind
-    (plain_run e (record { k = 0; op = Flush; block = 0 }) bytes r.answer) c.step_at-run.ensures.step)
+    (plain_run e (record { k = 0; op = Flush; block = 0 }) bytes r.answer) c.step_at-run.ensures.step (omega (arith, c.step_at-run.ensures.front)))

@@ -1,7 +1,12 @@
 use Rattle.std.proofs.Common.{◌≡◌, max, MatchBool, true, ap, sym, subst, ◌∙◌}
 use Rattle.host_session.specs.Closing.{IsClosedInTurn, IsOpenInTurn, is_landed}
-use Rattle.host_session.proofs.Shutting.{closed_in_turn, open_in_turn, when_false, when_true}
+use Rattle.host_session.proofs.Shutting.{closed_in_turn, open_in_turn, unlanded_in_turn, when_false, when_true}
 use Rattle.host_session.proofs.finish.close_in_turn.Goals as goal
+
+pub returns-then-not-is_landed-clause-answer : goal.returns-then-not-is_landed-clause-answer
+returns-then-not-is_landed-clause-answer g c =
+    let a = c.args in
+    unlanded_in_turn a.client a.wanted a.front a.intake.now a.memory_seat.now a.seat.now (sym c.is_landed.ensures ∙ c.if-not-is_landed.true) c.requires.memory.1 c.requires.front
 
 pub returns-then-attempt-clause-answer : goal.returns-then-attempt-clause-answer
 returns-then-attempt-clause-answer g c =

@@ -21,7 +21,7 @@ invariant_of-self g c =
     let owner : Owner = record { hand = c.args.hand; session = c.args.session; index = c.args.index; k = c.args.k } in
     let before = λ (t : IsTrue (shape_of c.make_step.new.cache).tells). subst (λ (sh : Shape). IsTrue sh.tells) m.shape t in
     let now = λ (t : IsTrue (shape_of c.make_step.new.cache).tells).
-    stepped g.met.D.Disk.of_size old (before t) c.args.op c.args.b c.make_step.new.bytes c.make_step.new.cache owner c.make_step.result c.requires.block m.calls c.make_step.new.steps m.entry m.gives m.content in
+    stepped g.met.D.Disk.of_size old (before t) c.args.op c.args.b c.args.bytes c.make_step.new.cache owner c.make_step.result c.requires.block m.calls c.make_step.new.steps m.entry m.gives m.content in
     let counts = g.D.Disk.counts in
     record {
       same_shape = m.shape ∙ old.same_shape;
@@ -39,7 +39,7 @@ invariant_of-self g c =
           c.args.k
           c.args.op
           c.args.b
-          c.make_step.new.bytes
+          c.args.bytes
           c.make_step.result
           old.steps.items
           (counts old.opening.value).faults
@@ -57,7 +57,7 @@ returns-clause-calls g c =
     let owner : Owner = record { hand = c.args.hand; session = c.args.session; index = c.args.index; k = c.args.k } in
     record {
       called = c.make_step.ensures.calls;
-      crashes = λ told. crashes g.met.D.Disk.of_size c.args.self.now told c.args.op c.args.b c.make_step.new.bytes c.make_step.new.cache owner c.make_step.result c.requires.block c.make_step.ensures.calls;
+      crashes = λ told. crashes g.met.D.Disk.of_size c.args.self.now told c.args.op c.args.b c.args.bytes c.make_step.new.cache owner c.make_step.result c.requires.block c.make_step.ensures.calls;
     }
 
 pub returns-clause-flushed : goal.returns-clause-flushed
@@ -66,9 +66,9 @@ returns-clause-flushed g c =
     let m = c.make_step.ensures in
     let new = c.make_step.new.cache in
     let owner : Owner = record { hand = c.args.hand; session = c.args.session; index = c.args.index; k = c.args.k } in
-    let added = entries_added c.make_step.result (entry_for owner c.args.op c.args.b c.make_step.new.bytes) in
-    flushed (image_of old) (history_of old) (changes_of c.make_step.new.steps.items) (g.D.Disk.state new.disk) (IsTrue (shape_of new).tells) c.args.op c.args.b c.make_step.new.bytes owner c.make_step.result
+    let added = entries_added c.make_step.result (entry_for owner c.args.op c.args.b c.args.bytes) in
+    flushed (image_of old) (history_of old) (changes_of c.make_step.new.steps.items) (g.D.Disk.state new.disk) (IsTrue (shape_of new).tells) c.args.op c.args.b c.args.bytes owner c.make_step.result
     (ap (λ (s : WithRoom Step). changes_of s.items) m.entry ∙ map-append change_of old.steps.items added)
     (λ told.
     let before = subst (λ (sh : Shape). IsTrue sh.tells) m.shape told in
-    (stepped g.met.D.Disk.of_size old before c.args.op c.args.b c.make_step.new.bytes new owner c.make_step.result c.requires.block m.calls c.make_step.new.steps m.entry m.gives m.content).keeps)
+    (stepped g.met.D.Disk.of_size old before c.args.op c.args.b c.args.bytes new owner c.make_step.result c.requires.block m.calls c.make_step.new.steps m.entry m.gives m.content).keeps)
