@@ -2,7 +2,7 @@
 use Prim.Native.Nat.{zero, suc}
 use Rattle.std.specs.Prelude.{◌≡◌, ◌⊎◌, ◌<◌, ◌==◌, ℕ, List, [], ◌∷◌, ◌++◌, length, take, drop, All, Contains, slice_index_or, slice_set, if◌then◌else◌}
 
--- an image is a list of blocks of one size
+-- all blocks of an image have this length
 abbrev pub IsImage : ℕ → List (List ℕ) → Type 0
 IsImage size image = All (λ block. length block ≡ size) image
 

@@ -1,7 +1,7 @@
 // Laws over the definitions, each the contract of a function that does nothing.
 ghost use Rattle.host_block.specs.Laws.{WrittenReads, SyncedReads, SyncedIsDurable, PickedIsCrash, CallKeeps, RunKeeps, FlushKeeps, ChangeKeeps, CrashOfKept, CrashInsideCall};
 
-/// A read gives the bytes of the last write to its block that succeeded.
+/// After a write that succeeds a read of its block gives its bytes, and one of any other block what it gave before.
 pub fn written_reads()
     ensures { WrittenReads }
 {}

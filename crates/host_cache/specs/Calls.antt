@@ -42,7 +42,7 @@ after_victim done held = record { lines = held.lines; victim = None }
 after_victim failed held = held
 after_victim refused held = held
 
--- A victim that is there is written to the disk; on success its place is empty.
+-- The disk gets the victim, where there is one, which is gone once that write has succeeded.
 pub record WritesVictim (old : Held) (calls : List DiskCall) (outcome : Outcome) (new : Held) : Type 0 where
   pub calls_are : calls ≡ victim_writes old.victim outcome
   pub idle : old.victim ≡ None → outcome ≡ done
@@ -87,7 +87,7 @@ dirty_line bytes = record { bytes = bytes; dirty = true }
 
 -- ---- a read that gives these bytes
 
--- A block in the list goes to the front without a disk call, and its bytes are given.
+-- The block is in the list: its bytes are given and it moves to the front, with no disk call.
 pub record Finds (b : ℕ) (given : List ℕ) (line : Line) (old : Held) (calls : List DiskCall) (outcome : Outcome) (new : Held) : Type 0 where
   pub calls_are : calls ≡ []
   pub succeeds : outcome ≡ done
@@ -191,7 +191,7 @@ pub record StopsAt (blocks b : ℕ) (old : Held) (calls : List DiskCall) (outcom
   pub ended : outcome ≢ done
   pub leaves : new ≡ record { lines = cleaned_below b old.lines; victim = old.victim }
 
--- The dirty entries are written by rising block number, each clean once its write succeeded.
+-- The dirty blocks go to the disk one by one, the lowest number first, and each that got there is clean.
 abbrev pub WritesDirty : ℕ → Rule
 WritesDirty blocks old calls outcome new = WritesAll blocks old calls outcome new ⊎ ((b : ℕ) × StopsAt blocks b old calls outcome new)
 

@@ -5,7 +5,7 @@ use Rattle.host_block.specs.Disk.{DiskState, read_of}
 use Rattle.host_cache.specs.declared.line.Line.{Line}
 use Rattle.host_cache.specs.declared.line.Victim.{Victim}
 
--- the blocks in the list, the most recently used first, and the victim: a dirty block that left the list and isn't written yet
+-- the list, whose front was used last, and the victim: a block out of the list that the disk still has to get
 pub record Held : Type 0 where
   pub lines : List (ℕ × Line)
   pub victim : Option Victim

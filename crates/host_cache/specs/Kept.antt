@@ -27,6 +27,6 @@ pub record IsKept (blocks size : ℕ) (held : Held) : Type 0 where
   pub lines : (b : ℕ) (line : Line) → line_at held.lines b ≡ Some line → IsBlock blocks size b line.bytes
   pub victim : (v : Victim) → held.victim ≡ Some v → IsBlock blocks size v.block v.bytes × (line_at held.lines v.block ≡ None)
 
--- each clean entry has the bytes that a read of the disk gives
+-- of a clean entry the disk has the same bytes
 abbrev pub AreClean : DiskState → List (ℕ × Line) → Type 0
 AreClean s lines = (b : ℕ) (line : Line) → line_at lines b ≡ Some line → line.dirty ≡ false → line.bytes ≡ read_of s b

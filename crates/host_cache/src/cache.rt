@@ -67,7 +67,7 @@ impl<D: Disk> Cache<D> {
         }
     }
 
-    /// Reads block `b`. After an error nothing is known of `into`.
+    /// Reads block `b`. Where it fails, `into` may hold anything.
     pub fn read(&mut self, b: u64, into: &mut [u8]) -> Result<(), CacheError>
         requires block { b < (shape_of self.old).blocks }
         requires piece { length into.old ≡ (shape_of self.old).size }

@@ -12,7 +12,7 @@ pub struct Line {
     pub dirty: bool,
 }
 
-/// A dirty block that left the list and isn't written yet.
+/// A block that is out of the list, and that the disk still has to get.
 #[derive(Drop)]
 pub struct Victim {
     pub block: u64,

@@ -37,7 +37,7 @@ impl<W: Write> Sink for StdSink<W> {
     }
 }
 
-// Writes once, again where a signal interrupts it. A write that takes nothing of a piece that isn't empty is a failure.
+// Writes once, again where a signal interrupts it. It has failed where there was something to write and nothing was taken.
 fn write<W: Write>(writer: &mut W, from: &[u8]) -> Option<usize>
     ensures most { IfSome result (λ count. count ≤ length from.now) }
     ensures some { IfSome result (λ count. 0 < length from.now → 1 ≤ count) }

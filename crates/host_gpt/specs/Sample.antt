@@ -62,7 +62,7 @@ image_with last fill array =
     filled 512 0 ++ header_block (primary_place last (crc_of array)) ++ array ++ usable_blocks fill 34 (last - 66) ++ array
     ++ header_block (backup_place last (crc_of array))
 
--- The base image: 128 blocks, and two partitions. Every byte of block b, for b from 34 to 94, is b.
+-- The base image: 128 blocks, and two partitions. Each usable block (34 to 94) is filled with its own number.
 abbrev pub base_bytes : List ℕ
 base_bytes =
     image_with 127 Number (sample_entry 0x11 34 63 (97 ∷ 108 ∷ 112 ∷ 104 ∷ 97 ∷ []) ++ sample_entry 0x22 64 94 (98 ∷ 101 ∷ 116 ∷ 97 ∷ []) ++ filled 16128 0)

@@ -7,13 +7,13 @@ use thiserror::Error;
 /// Why there is no table to hand out.
 #[derive(Clone, Copy, Debug, PartialEq, Eq, Error)]
 pub enum TableError {
-    /// Neither header is valid, and neither is too large.
+    /// No header is valid, and none passes a limit.
     #[error("no partition table")]
     NoTable,
     /// The disk failed, and its count of faults rose.
     #[error("the disk failed")]
     Disk,
-    /// Neither header is valid, and one has more than 1,024 entries or an array of more than 1,048,576 bytes.
+    /// No header is valid, and one passes a limit: 1,024 entries, or 1,048,576 bytes of them.
     #[error("the partition table is too large")]
     TooLarge,
     /// Memory was refused.

@@ -74,6 +74,6 @@ pub record Attaches {E : Type 0} (size : ℕ) (writes : Bool) (image : List (Lis
   pub blocks : IsTrue old.tells → OnOk result (new.blocks ≡ length image)
   pub content : IsTrue old.tells → OnOk result (state ≡ fresh image)
 
--- A disk that tells gives the bytes of the last pending write to the block, else the durable ones.
+-- Where the disk tells, a read gives what was put into the block last, be it pending or durable.
 abbrev pub Reads : {E : Type 0} → Bool → DiskState → ℕ → List ℕ → Result Unit E → Type 0
 Reads tells state b into result = IsTrue tells → OnOk result (into ≡ read_of state b)

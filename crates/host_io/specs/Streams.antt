@@ -13,7 +13,7 @@ pub record PutsSome {E : Type 0} (from : List ℕ) (result : Result ℕ E) : Typ
   pub most : IfOk result (λ n. n ≤ length from)
   pub least : IfOk result (λ n. 0 < length from → 1 ≤ n)
 
--- where the sink tells, the first n bytes were appended, none at an error
+-- a sink that tells has the bytes that it took behind those from before, and none more after an error
 pub record Puts {E : Type 0} (tells : Bool) (appended new_appended from : List ℕ) (result : Result ℕ E) : Type 0 where
   pub ok : IsTrue tells → IfOk result (λ n. new_appended ≡ appended ++ take n from)
   pub err : IsTrue tells → OnErr result (new_appended ≡ appended)

@@ -18,7 +18,7 @@ pub enum DiskError {
 }
 
 pub trait Disk {
-    /// Whether it tells its content, whether an image is attached and may be written, and the number and size of its blocks.
+    /// Whether it tells its content, whether an image is attached and may be written, how many blocks it has, and of what size.
     ghost shape: { Self → Shape };
 
     /// How often it has failed, and how many reads, writes and syncs were called.
@@ -43,7 +43,7 @@ pub trait Disk {
         ensures opening { opening self.new ≡ opening self.old }
         ensures calls { Calls (counts self.old) (counts self.old) (counts self.new) (never_fails self.old) (never_fails self.new) result };
 
-    /// Reads block `b`. After an error nothing is known of `into`.
+    /// Reads block `b`. Where it fails, `into` may hold anything.
     fn read_block(&mut self, b: u64, into: &mut [u8]) -> Result<(), DiskError>
         requires block { b < (shape self.old).blocks }
         requires piece { length into.old ≡ (shape self.old).size }

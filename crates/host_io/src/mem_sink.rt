@@ -6,7 +6,7 @@ use crate::{Sink, SinkFailed};
 use host_block::Oom;
 use std::alloc::Global;
 
-/// A sink with room for so many bytes, which fails at the calls whose numbers, from 1, are listed, and where nothing fits.
+/// A sink with room for so many bytes. The listed calls fail, of which the first has the number 1, and those where nothing fits.
 #[derive(Drop)]
 pub struct MemSink {
     bytes: Vec<u8>,

@@ -4,7 +4,7 @@ ghost use Rattle.std.specs.Prelude.{◌≤◌, length};
 use crate::fails::is_listed;
 use crate::{Source, SourceFailed};
 
-/// A source of these bytes, which fails at the calls whose numbers, from 1, are listed.
+/// A source of these bytes. The listed calls fail; the first call has the number 1.
 #[derive(Drop)]
 pub struct MemSource {
     bytes: Vec<u8>,

@@ -3,7 +3,7 @@ use thiserror::Error;
 /// Why a number has no range.
 #[derive(Clone, Copy, Debug, PartialEq, Eq, Error)]
 pub enum PartError {
-    /// No used entry has the number.
+    /// The number is that of no used entry.
     #[error("no such partition")]
     Unused,
     /// The entry reaches past the usable blocks, ends before it starts or shares a block with another one.

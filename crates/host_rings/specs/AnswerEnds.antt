@@ -35,11 +35,11 @@ with_slip s x = slip_sender_of s.ring s.depth s.number (s.pushed ++ x ∷ [])
 abbrev pub with_slip_taken : SlipTakerState → Slip → SlipTakerState
 with_slip_taken t x = slip_taker_of t.ring t.depth t.senders (t.taken ++ x ∷ []) t.heard
 
--- at a step of the call the ring was full, and what the sender pushed stood in it or had left it
+-- what a full ring can tell a sender: as many slips as it is deep, and those that left it, have all that this one pushed
 abbrev pub FoundNoRoom : SlipSenderState → Type 0
 FoundNoRoom s = Held s.depth (HoldsAfter s.number s.pushed)
 
--- at a step of the call the ring was empty, and what the taker heard to be pushed was taken then
+-- what an empty ring can tell the taker: all that it heard to be pushed was taken
 abbrev pub FoundNone : SlipTakerState → Type 0
 FoundNone t = Held 0 (AllThere t.taken t.heard)
 

@@ -49,10 +49,10 @@ with_taken t e = taker_of t.ring t.depth t.records (t.taken ++ e ∷ []) t.heard
 abbrev pub with_heard : TakerState → List Envelope → TakerState
 with_heard t pushed = taker_of t.ring t.depth t.records t.taken (longer t.heard pushed)
 
--- at a step of the call the ring was full, and what the sender heard to be taken was taken then
+-- what a full ring can tell the sender: as many as it is deep were pushed last, and before them all that it heard to be taken
 abbrev pub FoundFull : SenderState → Type 0
 FoundFull s = Held s.depth (LeftBehind s.pushed s.heard)
 
--- at a step of the call the ring was empty, and what the taker heard to be pushed was taken then
+-- what an empty ring can tell the taker: all that it heard to be pushed was taken
 abbrev pub FoundEmpty : TakerState → Type 0
 FoundEmpty t = Held 0 (StillAhead t.taken t.heard)

@@ -52,8 +52,8 @@ pub fn answer_ring(
 
 /// Ends a ring, and tells where what was taken came from.
 ///
-/// The slips of each sender stand in what was taken in the order in which it pushed them. Each slip stands there at most
-/// as often as in what all the senders pushed.
+/// The slips of each sender were taken in the order in which it pushed them, and none more often than the senders together
+/// pushed it.
 pub fn close_answers(senders: Vec<SlipSender>, taker: SlipTaker)
     requires { AreAllOf taker senders.items }
     ensures order { ComeFrom (map (λ s. s.pushed) senders.items) taker.taken }

@@ -1,4 +1,4 @@
-/// The ring was full, and the element comes back.
+/// A push gives the element back.
 #[derive(Clone, Copy, Debug, PartialEq, Eq, Drop)]
 pub struct Full<T> {
     pub element: T,

@@ -32,7 +32,7 @@ impl Model for Sender {
 }
 
 impl Sender {
-    /// Adds an envelope at the back. It comes back only if the ring was full at a step of this call.
+    /// Adds an envelope at the back, or gives it back and changes nothing; then at least as many as the ring is deep were pushed.
     pub fn push<R: Wait>(&mut self, rt: &R, envelope: Envelope) -> Result<(), Full<Envelope>>
         requires index { envelope.index ≡ length self.old.pushed }
         requires room { envelope.index < self.old.records }

@@ -31,7 +31,8 @@ impl Model for SlipSender {
 }
 
 impl SlipSender {
-    /// Adds a slip at the back. It comes back only if the ring was full at a step of this call.
+    /// Adds a slip at the back, or gives it back and changes nothing. A sender knows its own slips alone, so it can't tell that
+    /// the ring was full.
     pub fn push<R: Wait>(&mut self, rt: &R, slip: Slip) -> Result<(), Full<Slip>>
         ensures { MatchResult result
             (λ _. self.new ≡ with_slip self.old slip)

@@ -33,7 +33,8 @@ impl Model for SlipTaker {
 }
 
 impl SlipTaker {
-    /// Takes the slip at the front. `None` only if the ring was empty at a step of this call.
+    /// Takes the slip at the front. With `None` nothing has changed. This taker is told of no push, so it can't tell that the
+    /// ring was empty.
     pub fn pop<R: Wait>(&mut self, rt: &R) -> Option<Slip>
         ensures { MatchOption result
             ((self.new ≡ self.old) × FoundNone self.old)

@@ -33,8 +33,8 @@ impl Model for Taker {
 }
 
 impl Taker {
-    /// Takes the envelope at the front. `None` only if the ring was empty at a step of this call; then all that this
-    /// taker was told of before the call was taken before the call.
+    /// Takes the envelope at the front. With `None` nothing has changed, and all that this taker was told of before the
+    /// call was taken before it.
     pub fn pop<R: Wait>(&mut self, rt: &R) -> Option<Envelope>
         ensures told { IfNone result (IsPrefix self.old.heard self.old.taken) }
         ensures step { MatchOption result

@@ -122,7 +122,7 @@ impl<S: Story> Book<S> {
         seats.pop().unwrap()
     }
 
-    /// Waits for the turn, and takes the state. Its history begins with all that the seat has seen, and has no entries with the seat's number but the seat's own.
+    /// Waits for the turn, and takes the state. Its history goes on from what the seat has seen, and the entries under the seat's number are those that the seat left.
     pub fn enter<R: Wait>(&self, rt: &R, seat: &mut BookSeat<S>) -> S
         requires { IsSeatOf self.now seat.old × IsOutside seat.old }
         ensures seat { IsSameSeat seat.old seat.new × IsInside seat.new }
@@ -141,7 +141,7 @@ impl<S: Story> Book<S> {
         unreachable!()
     }
 
-    /// The same, and the history has at least n entries. It looks under the turn, and enters again while there are fewer.
+    /// The same, until a history of n entries or more is found: the turn is given up and taken anew as often as that takes.
     pub fn enter_past<R: Wait>(&self, rt: &R, seat: &mut BookSeat<S>, n: u64) -> S
         requires { IsSeatOf self.now seat.old × IsOutside seat.old }
         ensures seat { IsSameSeat seat.old seat.new × IsInside seat.new }

@@ -1,4 +1,4 @@
-//! A ticket lock that hands its state round by value and knows its history: a list of entries, each with its maker's number, that only grows.
+//! A ticket lock that hands its state round by value and knows its history, a list that only grows, in which every entry names its maker.
 #![tactic(auto)]
 
 mod book;

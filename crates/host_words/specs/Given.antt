@@ -69,7 +69,7 @@ after_word (joined name value) word rest next = with_value name value (next None
 after_word (waits name) word rest next = next (Some name)
 after_word unknown word rest next = None
 
--- a value in a word of its own looks like no option, and like no `--`
+-- a value that is the next word is no option and isn't `--`
 abbrev pub as_value : Kind → Option Given → Option Given
 as_value other given = given
 as_value _ given = None

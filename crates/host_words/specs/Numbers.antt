@@ -19,7 +19,7 @@ abbrev pub in_range : ℕ → ℕ → Option ℕ → Option ℕ
 in_range low high None = None
 in_range low high (Some n) = if nat_le low n && nat_le n high then Some n else None
 
--- a number with a value in the range of its place
+-- a number from low to high, both among them
 unfoldable pub number : ℕ → ℕ → Word → Option ℕ
 number low high word = in_range low high (decimal word)
 

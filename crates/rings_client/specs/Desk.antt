@@ -15,6 +15,6 @@ pub record DeskState : Type 0 where
 abbrev pub desk_of : RingId → ℕ → List Envelope → List Envelope → DeskState
 desk_of ring records taken heard = record { ring = ring; records = records; taken = taken; heard = heard }
 
--- at a step of the call the ring was empty, and what the desk heard to be pushed was taken then
+-- what an empty ring can tell a desk: all that it heard to be pushed was taken
 abbrev pub DeskFoundEmpty : DeskState → Type 0
 DeskFoundEmpty d = Held 0 (StillAhead d.taken d.heard)

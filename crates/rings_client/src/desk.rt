@@ -43,8 +43,8 @@ impl Desk {
         Ok(Desk { taker, rows, room })
     }
 
-    /// The next envelope. `None` only if the ring was empty at a step at which what had been popped was what the desk has
-    /// taken; then that begins with all that the desk was told of.
+    /// The next envelope, for which a row is kept. With `None` nothing has changed, and what the desk has taken begins with all
+    /// that it was told of.
     pub fn next<R: Wait>(&mut self, rt: &R) -> Option<Envelope>
         ensures told { IfNone result (IsPrefix self.old.heard self.old.taken) }
         ensures step { MatchOption result
