@@ -1,0 +1,40 @@
+-- Small texts and what they mean.
+use Rattle.std.proofs.Common.{refl}
+use Rattle.hex.specs.Hex.{decode_pairs}
+use Rattle.host_record.specs.Command.{opcode}
+use Rattle.model_rows.specs.Scripts.{TextsAreScripts}
+use Rattle.script_model.specs.Arguments.{has_count, group_bits, group_number}
+use Rattle.script_model.specs.Draft.{added, may_stand, may_wait, meaning}
+use Rattle.script_model.specs.Generate.{next, request_from, request_line, session_from}
+use Rattle.script_model.specs.Keyword.{keyword_of}
+use Rattle.script_model.specs.Limit.{moved_by, moved_by_lines, has_many_records, limit_of}
+use Rattle.script_model.specs.Lines.{session_line, attach_line, fill_line, flush_line, wait_line, end_line, statement, show_line, transfer_line, trim_line}
+use Rattle.script_model.specs.Numbers.{decimal_value, number, hex_bytes}
+use Rattle.script_model.specs.Owed.{owed}
+use Rattle.script_model.specs.Script.{after_line}
+
+pub texts_are_scripts : TextsAreScripts
+unfolding after_line meaning added may_stand may_wait keyword_of statement session_line attach_line fill_line wait_line end_line has_count number decimal_value hex_bytes decode_pairs owed flush_line group_bits group_number next request_line request_from session_from show_line transfer_line trim_line limit_of has_many_records moved_by_lines moved_by opcode
+texts_are_scripts = record {
+  empty = refl;
+  blanks = refl;
+  one_session = refl;
+  sending = refl;
+  too_many = refl;
+  first_line = refl;
+  byte_first = refl;
+  return_at_end = refl;
+  no_session = refl;
+  after_end = refl;
+  count_before_number = refl;
+  leftmost = refl;
+  hex_last = refl;
+  long_number = refl;
+  no_comment = refl;
+  draws = refl;
+  made = refl;
+  within_limits = refl;
+  many_sessions = refl;
+  much_moved = refl;
+  just_moved = refl;
+}
