@@ -2,7 +2,6 @@ pub mod CacheLemmas
 pub mod CleanLemmas
 pub mod DirtyLemmas
 pub mod EntryLemmas
-mod Examples
 pub mod LawLemmas
 pub mod ListLemmas
 pub mod LruLemmas

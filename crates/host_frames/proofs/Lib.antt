@@ -1,4 +1,3 @@
-mod Examples
 pub mod Totals
 pub mod Bits
 pub mod Stepping

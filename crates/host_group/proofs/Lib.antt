@@ -1,4 +1,3 @@
-mod Examples
 pub mod Folds
 pub mod Tallies
 pub mod CellWords

@@ -1,4 +1,3 @@
 pub mod CopyLemmas
-mod Examples
 pub mod FailLemmas
 pub mod FlatLemmas

@@ -6,7 +6,3 @@ pub mod Inside
 pub mod Lent
 pub mod ListTests
 pub mod Ordering
-pub mod ExampleParts
-pub mod LawfulSessions
-pub mod RealisticSession
-pub mod RefusedSessions

@@ -1,4 +1,3 @@
-mod Examples
 pub mod ByteLemmas
 pub mod RequestLemmas
 pub mod ResponseLemmas

@@ -2,4 +2,3 @@ pub mod Lists
 pub mod RequestMoves
 pub mod AnswerMoves
 pub mod Counts
-mod Examples

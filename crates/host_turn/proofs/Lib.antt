@@ -1,4 +1,3 @@
-mod Examples
 pub mod Totals
 pub mod Histories
 pub mod Stepping

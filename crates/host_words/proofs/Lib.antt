@@ -1,5 +1,4 @@
 pub mod Answered
-pub mod Examples
 pub mod Parsed
 pub mod Rules
 pub mod Turns

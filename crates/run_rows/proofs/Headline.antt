@@ -7,13 +7,13 @@ use Rattle.host_block.specs.Crash.{IsCrashImage}
 use Rattle.host_block.specs.Disk.{DiskState, IsCrashOf}
 use Rattle.host_io.specs.MemDisk.{state_of}
 use Rattle.host_io.specs.declared.mem_disk.MemDisk.{MemDisk}
-use Rattle.host_model.proofs.ExampleParts.{lawful_from}
+use Rattle.model_rows.proofs.Lawful.{lawful_from}
 use Rattle.host_model.specs.Changes.{changes_of}
 use Rattle.host_model.specs.LawfulSession.{IsLawfulSession}
 use Rattle.host_model.specs.Verdict.{judged}
 use Rattle.host_record.specs.Command.{opcode}
 use Rattle.host_record.specs.Response.{response_fields}
-use Rattle.host_report.proofs.LegalTests.{legal-from}
+use Rattle.model_rows.proofs.Legal.{legal-from}
 use Rattle.host_report.specs.Lawful.{IsLawful, session_of}
 use Rattle.host_report.specs.Text.{report_text}
 use Rattle.host_run.specs.Ending.{IsItsScript}

@@ -8,7 +8,7 @@ use Rattle.host_block.specs.Disk.{fresh}
 use Rattle.host_gpt.proofs.LawLemmas.{one_table}
 use Rattle.host_gpt.specs.declared.entry.Entry.{Entry}
 use Rattle.host_gpt.specs.declared.which.Which.TheVariants.{Primary}
-use Rattle.host_model.proofs.ExampleParts.{lawful_from}
+use Rattle.model_rows.proofs.Lawful.{lawful_from}
 use Rattle.host_model.specs.Changes.{change_of}
 use Rattle.host_model.specs.LawfulSession.{IsLawfulSession}
 use Rattle.host_model.specs.Log.{sending}

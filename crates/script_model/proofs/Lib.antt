@@ -1,4 +1,3 @@
-pub mod Examples
 pub mod FirstLine
 pub mod HexText
 pub mod Moved

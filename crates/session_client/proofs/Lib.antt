@@ -4,7 +4,5 @@ pub mod Tasks
 pub mod FixedParts
 pub mod Ending
 pub mod Hands
-pub mod IntakeRows
-mod SessionRows
 pub mod TakenOut
 pub mod ToDo
