@@ -3,7 +3,7 @@ use Rattle.std.proofs.Common.{◌≡◌, ◌⊎◌, inl, inr, ℕ, zero, suc, �
 use Rattle.std.proofs.lemmas.List.{length-map, length-reverse, length-set, reverse-append}
 use Rattle.std.specs.Prelude.{slice_get}
 use Rattle.std.specs.declared.alloc.Global.{Global}
-use Rattle.std.proofs.lemmas.Option.{slice_get_within}
+use Rattle.std.proofs.lemmas.Option.{none-some, same_Some, slice_get_within}
 use Rattle.host_session.specs.declared.hand.SessionHand.{SessionHand}
 use Rattle.host_session.specs.Client.{ClientState}
 use Rattle.host_session.specs.Plan.{IsFresh, IsHand}
@@ -12,6 +12,7 @@ use Rattle.host_worker.specs.Servers.{plan_of}
 use Rattle.host_worker.specs.Shares.{HasHands, HasOneMore, HaveOneMore, IsNewShare, openings_of, specs_of}
 use Rattle.host_worker.specs.Starts.{AreDealt, HasGiven}
 use Rattle.host_worker.proofs.Lists.{at_place, each_place, map_from, set_elsewhere, set_here}
+use Rattle.host_worker.proofs.Places.{from_above, none_plus, one_less, plus_none, positive, reflexive, shift, unlike_above, unlike_below, within_equal}
 
 -- ---- lists
 
@@ -49,7 +50,7 @@ map_same f (x ∷ xs) (y ∷ ys) n e =
 module _ (less more : List Session) (share : List SessionHand) (d : HaveOneMore less more share) where
   pub one_more : (k : ℕ) (s s' : Session) → slice_get less k ≡ Some s → slice_get more k ≡ Some s' → (h : SessionHand) × (slice_get share k ≡ Some h) × HasOneMore s s' h
   one_more k s s' at at' =
-      let h = some_at share k (omega (arith, d.count.1, slice_get_within less k s at)) in
+      let h = some_at share k (within_equal k (length less) (length share) (slice_get_within less k s at) d.count.1) in
       (h.0, h.1, d.each k s s' h.0 at at' h.1)
 
   pub same_specs : specs_of less ≡ specs_of more
@@ -67,7 +68,7 @@ module _ (less more : List Session) (share : List SessionHand) (d : HaveOneMore 
   module _ (left : ℕ) (full : All (HasHands (left + 1)) more) where
     one_fewer : (s s' : Session) (h : SessionHand) → HasOneMore s s' h → HasHands (left + 1) s' → HasHands left s
     one_fewer s s' h m f = record {
-      count = omega (arith, f.count, ap length m.hands, length-append s.hands.items (h ∷ []));
+      count = one_less (length s.hands.items) (length s'.hands.items) left f.count (ap length m.hands ∙ length-append s.hands.items (h ∷ []));
       each = λ k x at.
           let was = f.each k x (ap (λ (l : List SessionHand). slice_get l k) m.hands ∙ before_end s.hands.items h x k at) in
           (subst (λ o. IsHand (o.value).plan k x) m.same.2 was.0, was.1);
@@ -75,13 +76,13 @@ module _ (less more : List Session) (share : List SessionHand) (d : HaveOneMore 
 
     pub all_fewer : All (HasHands left) less
     all_fewer = each_place (HasHands left) less (λ k s at.
-        let b = some_at more k (omega (arith, d.count.0, slice_get_within less k s at)) in
+        let b = some_at more k (within_equal k (length less) (length more) (slice_get_within less k s at) d.count.0) in
         let m = one_more k s b.0 at b.1 in
         one_fewer s b.0 m.0 m.2 (at_place (HasHands (left + 1)) more k b.0 full b.1))
 
     last_one : (s s' : Session) (h : SessionHand) → HasOneMore s s' h → HasHands (left + 1) s' → IsHand (plan_of s') left h × IsFresh h
     last_one s s' h m f =
-        let n : length s.hands.items ≡ left = omega (arith, f.count, ap length m.hands, length-append s.hands.items (h ∷ [])) in
+        let n : length s.hands.items ≡ left = one_less (length s.hands.items) (length s'.hands.items) left f.count (ap length m.hands ∙ length-append s.hands.items (h ∷ [])) in
         f.each left h (ap (λ (l : List SessionHand). slice_get l left) m.hands ∙ subst (λ (k : ℕ). slice_get (s.hands.items ++ h ∷ []) k ≡ Some h) n (at_end s.hands.items h))
 
     pub is_share : IsNewShare (openings_of more) left share
@@ -89,7 +90,7 @@ module _ (less more : List Session) (share : List SessionHand) (d : HaveOneMore 
       count = d.count.1 ∙ (sym d.count.0 ∙ sym (length-map more (λ (s : Session). s.opened.value)));
       each = λ k c h at here.
           let b = map_from (λ (s : Session). s.opened.value) more k c at in
-          let a = some_at less k (omega (arith, d.count.0, slice_get_within more k b.0 b.1)) in
+          let a = some_at less k (within_equal k (length more) (length less) (slice_get_within more k b.0 b.1) (sym d.count.0)) in
           let m = d.each k a.0 b.0 h a.1 b.1 here in
           subst (λ (x : ClientState). IsHand x.plan left h × IsFresh h) (sym b.2) (last_one a.0 b.0 h m (at_place (HasHands (left + 1)) more k b.0 full b.1));
     }
@@ -106,21 +107,21 @@ pub record AreGiven (k : ℕ) (old new : List Session) (share : List SessionHand
 pub given_more : (k : ℕ) (old mid new : List Session) (share : List SessionHand) (h : SessionHand) → AreGiven k old mid share → HasGiven k mid new h → AreGiven (k + 1) old new (share ++ h ∷ [])
 given_more k old mid new share h g v = record {
   count = ap length v.left ∙ (length-set mid k v.after ∙ g.count);
-  taken = omega (arith, g.taken, length-append share (h ∷ []));
+  taken = length-append share (h ∷ []) ∙ ap (λ (n : ℕ). n + 1) g.taken;
   done = λ j s s' x at at' here. done j s s' x at at' (from_end share h x j here);
-  rest = λ j le. elsewhere j (λ e. omega (arith, e, le)) ∙ g.rest j (omega (arith, le));
+  rest = λ j le. elsewhere j (unlike_above j k le) ∙ g.rest j (from_above j k le);
 }
   where
     elsewhere : (j : ℕ) → (j ≡ k → ⊥) → slice_get new j ≡ slice_get mid j
     elsewhere j other = ap (λ (l : List Session). slice_get l j) v.left ∙ set_elsewhere mid k j v.after other
 
     done : (j : ℕ) (s s' : Session) (x : SessionHand) → slice_get new j ≡ Some s → slice_get old j ≡ Some s' → (slice_get share j ≡ Some x) ⊎ ((j ≡ length share) × (x ≡ h)) → HasOneMore s s' x
-    done j s s' x at at' (inl here) = g.done j s s' x (sym (elsewhere j (λ e. omega (arith, e, g.taken, slice_get_within share j x here))) ∙ at) at' here
+    done j s s' x at at' (inl here) = g.done j s s' x (sym (elsewhere j (unlike_below j k (within_equal j (length share) k (slice_get_within share j x here) (sym g.taken)))) ∙ at) at' here
     done j s s' x at at' (inr last) =
         let e : j ≡ k = last.0 ∙ g.taken in
         let is_after : s ≡ v.after = set_here mid k v.after s (sym (ap (λ (l : List Session). slice_get l k) v.left) ∙ (ap (λ (n : ℕ). slice_get new n) (sym e) ∙ at)) in
-        let same : Some v.before ≡ Some s' = sym v.stood ∙ (g.rest k (omega arith) ∙ (ap (λ (n : ℕ). slice_get old n) (sym e) ∙ at')) in
-        let is_before : v.before ≡ s' = cc same in
+        let same : Some v.before ≡ Some s' = sym v.stood ∙ (g.rest k (reflexive k) ∙ (ap (λ (n : ℕ). slice_get old n) (sym e) ∙ at')) in
+        let is_before : v.before ≡ s' = same_Some _ _ same in
         subst (λ (y : SessionHand). HasOneMore s s' y) (sym last.1) (subst (λ (y : Session). HasOneMore y s' h) (sym is_after) (subst (λ (y : Session). HasOneMore v.after y h) is_before v.more))
 
 -- ---- one share after another
@@ -145,7 +146,7 @@ dealt_none left old shares none full = record {
 }
   where
     no : (n : ℕ) (share : Vec SessionHand Global) → slice_get [] n ≡ Some share → ⊥
-    no n share at = cc at
+    no n share at = none-some share at
 
 pub dealt_more : (left : ℕ) (old mid new : List Session) (shares : List (Vec SessionHand Global)) (share : Vec SessionHand Global) → AreDealtFrom (left + 1) old mid shares → HaveOneMore new mid share.items → AreDealtFrom left old new (shares ++ share ∷ [])
 dealt_more left old mid new shares share d m = record {
@@ -162,11 +163,11 @@ dealt_more left old mid new shares share d m = record {
 
     at_number : (n : ℕ) (x : Vec SessionHand Global) → slice_get (share ∷ reverse shares) n ≡ Some x → IsNewShare (openings_of old) (left + n) x.items
     at_number zero x at =
-        let same : share ≡ x = cc at in
-        let plain : left + 0 ≡ left = omega arith in
+        let same : share ≡ x = same_Some _ _ at in
+        let plain : left + 0 ≡ left = plus_none left in
         subst (λ (k : ℕ). IsNewShare (openings_of old) k x.items) (sym plain) (subst (λ (y : Vec SessionHand Global). IsNewShare (openings_of old) left y.items) same new_share)
     at_number (suc n) x at =
-        let plain : (left + 1) + n ≡ left + suc n = omega arith in
+        let plain : (left + 1) + n ≡ left + suc n = shift left n in
         subst (λ (k : ℕ). IsNewShare (openings_of old) k x.items) plain (d.shares_are n x at)
 
 -- all are dealt out
@@ -179,10 +180,10 @@ dealt_all hands left old new shares none count d =
       empty = e.hands_left;
       count = length-reverse shares ∙ count;
       shares_are = λ n share at.
-          let plain : 0 + n ≡ n = omega arith in
+          let plain : 0 + n ≡ n = none_plus n in
           subst (λ (k : ℕ). IsNewShare (openings_of old) k share.items) plain (e.shares_are n share at);
     }
 
 -- each session has a hand left
 pub some_left : (left : ℕ) (sessions : List Session) → 0 < left → All (HasHands left) sessions → All (λ (s : Session). 0 < length s.hands.items) sessions
-some_left left sessions some all = each_place (λ (s : Session). 0 < length s.hands.items) sessions (λ k s at. let h = at_place (HasHands left) sessions k s all at in omega (arith, some, h.count))
+some_left left sessions some all = each_place (λ (s : Session). 0 < length s.hands.items) sessions (λ k s at. let h = at_place (HasHands left) sessions k s all at in positive left (length s.hands.items) some h.count)

@@ -1,4 +1,5 @@
 pub mod Lists
+pub mod Places
 pub mod Histories
 pub mod Visited
 pub mod Rounds

@@ -5,7 +5,7 @@ use Rattle.std.specs.List.{cons_option}
 use Rattle.std.proofs.lemmas.Bool.{cases_lt}
 use Rattle.std.proofs.lemmas.List.{length-reverse, length-set, map-append, reverse-append, reverse-reverse}
 use Rattle.std.proofs.lemmas.List.Elements.{All-head, All-tail}
-use Rattle.std.proofs.lemmas.Option.{slice_get_within}
+use Rattle.std.proofs.lemmas.Option.{none-some, same_Some, slice_get_within}
 use Rattle.host_io.specs.declared.disk.Disk as disk
 use Rattle.host_report.specs.declared.session.SessionReport.{SessionReport}
 use Rattle.host_session.specs.declared.hand.SessionHand.{SessionHand}
@@ -17,6 +17,7 @@ use Rattle.host_worker.specs.Finishes.{AreSessionsEnded, AreToEnd, IsEndOf, IsTo
 use Rattle.host_worker.specs.Shares.{HasOneMore, HaveOneMore}
 use Rattle.host_worker.proofs.Dealt.{from_end, some_at}
 use Rattle.host_worker.proofs.Lists.{at_place, each_place, set_elsewhere, set_here}
+use Rattle.host_worker.proofs.Places.{both_longer, both_one_less, from_above, last_below, not_last, reflexive, room_left, unlike_above, unlike_below, wider, within_equal}
 use Rattle.host_worker.proofs.Starting.{none_of}
 
 -- ---- a share comes back
@@ -31,21 +32,21 @@ pub back_more : (k : ℕ) (share : List SessionHand) (old mid new : List Session
 back_more k share old mid new before after h b here stood left one = record {
   count = ap length left ∙ (length-set mid k after ∙ b.count);
   done = λ j s s' x less at at' there. done j s s' x (cases_lt j k) less at at' there;
-  rest = λ j le. elsewhere j (λ e. omega (arith, e, le)) ∙ b.rest j (omega (arith, le));
+  rest = λ j le. elsewhere j (unlike_above j k le) ∙ b.rest j (from_above j k le);
 }
   where
     elsewhere : (j : ℕ) → (j ≡ k → ⊥) → slice_get new j ≡ slice_get mid j
     elsewhere j other = ap (λ (l : List Session). slice_get l j) left ∙ set_elsewhere mid k j after other
 
     done : (j : ℕ) (s s' : Session) (x : SessionHand) → (j < k) ⊎ (k ≤ j) → j < k + 1 → slice_get old j ≡ Some s → slice_get new j ≡ Some s' → slice_get share j ≡ Some x → HasOneMore s s' x
-    done j s s' x (inl below) less at at' there = b.done j s s' x below at (sym (elsewhere j (λ e. omega (arith, e, below))) ∙ at') there
+    done j s s' x (inl below) less at at' there = b.done j s s' x below at (sym (elsewhere j (unlike_below j k below)) ∙ at') there
     done j s s' x (inr above) less at at' there =
-        let e : j ≡ k = omega (arith, less, above) in
+        let e : j ≡ k = last_below j k less above in
         let is_after : s' ≡ after = set_here mid k after s' (sym (ap (λ (l : List Session). slice_get l k) left) ∙ (ap (λ (n : ℕ). slice_get new n) (sym e) ∙ at')) in
-        let q : Some before ≡ Some s = sym stood ∙ (b.rest k (omega arith) ∙ (ap (λ (n : ℕ). slice_get old n) (sym e) ∙ at)) in
+        let q : Some before ≡ Some s = sym stood ∙ (b.rest k (reflexive k) ∙ (ap (λ (n : ℕ). slice_get old n) (sym e) ∙ at)) in
         let r : Some h ≡ Some x = sym here ∙ (ap (λ (n : ℕ). slice_get share n) (sym e) ∙ there) in
-        let is_before : before ≡ s = cc q in
-        let is_h : h ≡ x = cc r in
+        let is_before : before ≡ s = same_Some before s q in
+        let is_h : h ≡ x = same_Some h x r in
         subst (λ (y : SessionHand). HasOneMore s s' y) is_h (subst (λ (y : Session). HasOneMore s y h) (sym is_after) (subst (λ (y : Session). HasOneMore y after h) is_before one))
 
 pub back_all : (share : List SessionHand) (old now : List Session) → length share ≡ length old → IsPutBack (length share) share old now → HaveOneMore old now share
@@ -63,8 +64,8 @@ module _ {D : Type 0} {g : disk.Ghosts D} where
   taken_more hands hand old mid new t m = record {
     count = m.count.0 ∙ t.count;
     each = λ k s s' at at'.
-        let b = some_at mid k (omega (arith, t.count, slice_get_within old k s at)) in
-        let h = some_at hand.sessions.items k (omega (arith, m.count.1, slice_get_within mid k b.0 b.1)) in
+        let b = some_at mid k (within_equal k (length old) (length mid) (slice_get_within old k s at) t.count) in
+        let h = some_at hand.sessions.items k (within_equal k (length mid) (length hand.sessions.items) (slice_get_within mid k b.0 b.1) m.count.1) in
         let e = t.each k s b.0 at b.1 in
         let o = m.each k b.0 s' h.0 b.1 at' h.1 in (
           o.same.0 ∙ e.0,
@@ -81,20 +82,20 @@ module _ {D : Type 0} {g : disk.Ghosts D} where
   few_parts k (hand ∷ hands) = one (slice_get hand.sessions.items k) (few_parts k hands)
     where
       one : (o : Option SessionHand) → length (parts_in k hands) ≤ length hands → length (cons_option o (parts_in k hands)) ≤ length (hand ∷ hands)
-      one None le = omega (arith, le)
-      one (Some h) le = omega (arith, le)
+      one None le = wider (length (parts_in k hands)) (length hands) le
+      one (Some h) le = both_longer (length (parts_in k hands)) (length hands) le
 
   -- there is room for one more
   pub room_still : (hands : List (Hand D g)) (all : ℕ) (old now : List Session) → AreTakenBack hands old now → length hands < all → All (λ (s : Session). length s.hands.items + all ≤ vec_capacity s.hands) old → All (λ (s : Session). length s.hands.items < vec_capacity s.hands) now
   room_still hands all old now t less room = each_place (λ (s : Session). length s.hands.items < vec_capacity s.hands) now (λ k s' at'.
-      let s = some_at old k (omega (arith, t.count, slice_get_within now k s' at')) in
+      let s = some_at old k (within_equal k (length now) (length old) (slice_get_within now k s' at') (sym t.count)) in
       let e = t.each k s.0 s' s.1 at' in
       let r = at_place (λ (x : Session). length x.hands.items + all ≤ vec_capacity x.hands) old k s.0 room s.1 in
-      omega (arith, ap length e.3, length-append s.0.hands.items (parts_in k hands), few_parts k hands, less, e.4, r))
+      room_left (length s'.hands.items) (length s.0.hands.items) (length (parts_in k hands)) (length hands) all (vec_capacity s'.hands) (vec_capacity s.0.hands) (ap length e.3 ∙ length-append s.0.hands.items (parts_in k hands)) (few_parts k hands) less e.4 r)
 
   -- each hand has a part of session k
   pub part_at : (k : ℕ) (hands : List (Hand D g)) → All (λ (hand : Hand D g). k < length hand.sessions.items) hands → (n : ℕ) (h : SessionHand) → slice_get (parts_in k hands) n ≡ Some h → (hand : Hand D g) × (slice_get hands n ≡ Some hand) × (slice_get hand.sessions.items k ≡ Some h)
-  part_at k [] all n h at = absurd (cc at)
+  part_at k [] all n h at = absurd (none-some h at)
   part_at k (hand ∷ hands) all n h at =
       let p = some_at hand.sessions.items k (All-head (λ (x : Hand D g). k < length x.sessions.items) hand hands all) in
       at_number n p.0 p.1 (ap (λ (o : Option SessionHand). slice_get (cons_option o (parts_in k hands)) n) (sym p.1) ∙ at) (λ m here. part_at k hands (All-tail (λ (x : Hand D g). k < length x.sessions.items) hand hands all) m h here)
@@ -129,7 +130,7 @@ ended_none sessions clients left_s left_c n s c = record {
   c_are = sym (ap reverse c ∙ reverse-reverse clients);
   even = refl;
   left_even = ap length c ∙ (length-reverse clients ∙ (n ∙ (sym (length-reverse sessions) ∙ sym (ap length s))));
-  ended = record { count = refl; each = λ k s c e at. absurd (cc at) };
+  ended = record { count = refl; each = λ k s c e at. absurd (none-some s at) };
 }
 
 at_middle : {A : Type 0} (xs : List A) (y : A) (zs : List A) → slice_get (xs ++ y ∷ zs) (length xs) ≡ Some y
@@ -156,7 +157,7 @@ module _ (sessions : List Session) (clients : List ClientState) (left_s more_s :
     s_are = s_rest ∙ sym (append_assoc d.done_s (s ∷ []) (reverse more_s));
     c_are = c_rest ∙ sym (append_assoc d.done_c (c ∷ []) (reverse more_c));
     even = length-append d.done_c (c ∷ []) ∙ (ap (λ (n : ℕ). n + 1) d.even ∙ sym (length-append d.done_s (s ∷ [])));
-    left_even = omega (arith, d.left_even, ap length s_is, ap length c_is, length-append more_s (s ∷ []), length-append more_c (c ∷ []));
+    left_even = both_one_less (length more_c) (length more_s) (length left_c) (length left_s) d.left_even (ap length s_is ∙ length-append more_s (s ∷ [])) (ap length c_is ∙ length-append more_c (c ∷ []));
     ended = record {
       count = length-append ends (e ∷ []) ∙ (ap (λ (n : ℕ). n + 1) d.ended.count ∙ sym (length-append d.done_s (s ∷ [])));
       each = λ k x y z at bt ct. one k x y z (from_end d.done_s s x k at) (from_end d.done_c c y k bt) (from_end ends e z k ct);
@@ -166,10 +167,10 @@ module _ (sessions : List Session) (clients : List ClientState) (left_s more_s :
       one : (k : ℕ) (x : Session) (y : ClientState) (z : SessionReport) → (slice_get d.done_s k ≡ Some x) ⊎ ((k ≡ length d.done_s) × (x ≡ s)) → (slice_get d.done_c k ≡ Some y) ⊎ ((k ≡ length d.done_c) × (y ≡ c)) → (slice_get ends k ≡ Some z) ⊎ ((k ≡ length ends) × (z ≡ e)) → IsEndOf x y z
       one k x y z (inl a) (inl b) (inl f) = d.ended.each k x y z a b f
       one k x y z (inr a) (inr b) (inr f) = subst (λ (v : Session). IsEndOf v y z) (sym a.1) (subst (λ (v : ClientState). IsEndOf s v z) (sym b.1) (subst (λ (v : SessionReport). IsEndOf s c v) (sym f.1) is))
-      one k x y z (inl a) (inr b) f = absurd (omega (arith, slice_get_within d.done_s k x a, b.0, d.even))
-      one k x y z (inr a) (inl b) f = absurd (omega (arith, slice_get_within d.done_c k y b, a.0, d.even))
-      one k x y z (inl a) (inl b) (inr f) = absurd (omega (arith, slice_get_within d.done_s k x a, f.0, d.ended.count))
-      one k x y z (inr a) (inr b) (inl f) = absurd (omega (arith, slice_get_within ends k z f, a.0, d.ended.count))
+      one k x y z (inl a) (inr b) f = absurd (not_last k (length d.done_c) (length d.done_s) (slice_get_within d.done_s k x a) b.0 d.even)
+      one k x y z (inr a) (inl b) f = absurd (not_last k (length d.done_s) (length d.done_c) (slice_get_within d.done_c k y b) a.0 (sym d.even))
+      one k x y z (inl a) (inl b) (inr f) = absurd (not_last k (length ends) (length d.done_s) (slice_get_within d.done_s k x a) f.0 d.ended.count)
+      one k x y z (inr a) (inr b) (inl f) = absurd (not_last k (length d.done_s) (length ends) (slice_get_within ends k z f) a.0 (sym d.ended.count))
 
 -- what a loop has come to stands in the list
 pub place_of : {A : Type 0} (xs ys zs : List A) (x : A) (k : ℕ) → xs ≡ (ys ++ x ∷ []) ++ zs → k ≡ length ys → slice_get xs k ≡ Some x

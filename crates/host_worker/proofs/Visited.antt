@@ -1,13 +1,13 @@
 -- A hand is one of its server still, after a visit at one session.
-use Rattle.std.proofs.Common.{◌≡◌, ℕ, ◌+◌, ◌≤◌, ◌==◌, Bool, true, false, List, [], ◌∷◌, ◌++◌, length, All, Option, Some, refl, sym, ap, subst, ◌∙◌, arith}
+use Rattle.std.proofs.Common.{◌≡◌, ℕ, ◌+◌, ◌<◌, ◌≤◌, ◌==◌, Bool, true, false, List, [], ◌∷◌, ◌++◌, length, All, Option, Some, refl, sym, ap, subst, ◌∙◌, arith}
 use Rattle.std.proofs.lemmas.List.{length-set}
 use Rattle.std.specs.Prelude.{◌&&◌, nat_le, MatchOption, slice_get, slice_set, sum_by}
 use Rattle.std.specs.List.{list_all}
 use Rattle.std.specs.Option.{ForSome}
 use Rattle.std.proofs.lemmas.Bool.{eqb-false, eqb-true, le-leb}
-use Rattle.std.proofs.lemmas.Option.{slice_get_within}
+use Rattle.std.proofs.lemmas.Option.{same_Some, slice_get_within}
 use Rattle.host_frames.specs.declared.seat.PoolSeat.{PoolSeat}
-use Rattle.host_frames.specs.Seats.{seat_pool}
+use Rattle.host_frames.specs.Seats.{given_back, seat_pool}
 use Rattle.host_hand.specs.Frames.{frames_out}
 use Rattle.host_hand.specs.declared.visit.Visit.{Visit}
 use Rattle.host_device.specs.declared.fixed.DeviceFixed.{DeviceFixed}
@@ -35,6 +35,7 @@ use Rattle.host_intake.proofs.Ledgering.{and_left, and_right}
 use Rattle.host_hand.specs.Growth.{HasAdded}
 use Rattle.std.proofs.lemmas.List.Elements.{All-head, All-tail}
 use Rattle.host_worker.proofs.Lists.{set_elsewhere, set_here, sum_set}
+use Rattle.host_worker.proofs.Places.{from_one, same_change, unlike_numbers, up_to_count}
 
 and_true : (a b : Bool) → a ≡ true → b ≡ true → (a && b) ≡ true
 and_true a b e f = ap (λ (w : Bool). w && b) e ∙ f
@@ -43,7 +44,7 @@ and_true a b e f = ap (λ (w : Bool). w && b) e ∙ f
 
 module _ (count n session : ℕ) (within : (1 ≤ session) × (session ≤ count)) where
   of_session : (x : Step) → x.session ≡ session → is_of_sessions count x ≡ true
-  of_session x e = and_true (nat_le 1 x.session) (nat_le x.session count) (le-leb 1 x.session (omega (arith, within.0, e))) (le-leb x.session count (omega (arith, within.1, e)))
+  of_session x e = and_true (nat_le 1 x.session) (nat_le x.session count) (le-leb 1 x.session (subst (λ (m : ℕ). 1 ≤ m) (sym e) within.0)) (le-leb x.session count (subst (λ (m : ℕ). m ≤ count) (sym e) within.1))
 
   all_of_session : (xs : List Step) → All (λ (x : Step). x.session ≡ session) xs → list_all (is_of_sessions count) xs ≡ true
   all_of_session [] all = refl
@@ -85,7 +86,7 @@ module _ {D : Type 0} {g : disk.Ghosts D} (server : Server D g) (hand : Hand D g
   on_device fixed is =
       let r = running.sessions k s here in
       let q : Some (fixed_of (opening_of server.device)) ≡ Some fixed = sym own.device.plan_is ∙ is in
-      let e : fixed_of (opening_of server.device) ≡ fixed = cc q in
+      let e : fixed_of (opening_of server.device) ≡ fixed = same_Some _ _ q in
       subst (λ (f : DeviceFixed D). IsOnDevice s.spec.part s.spec.size f) e (record { size_is = sym r.size_is; within = r.part.0 })
 
   pub its_device : IsAtDevice (book_id server.device) hand.number s.spec.part s.spec.size hand.device_seat
@@ -104,12 +105,12 @@ module _ {D : Type 0} {g : disk.Ghosts D} (server : Server D g) (old new : Hand 
 
   module _ (running : IsServer server) (own : IsHandOf server old) (here : slice_get server.sessions.items k ≡ Some s) (l : HasLeft) where
     apart : (j : ℕ) (t : Session) → slice_get server.sessions.items j ≡ Some t → (j ≡ k → ⊥) → t.spec.number ≡ s.spec.number → ⊥
-    apart j t at other e = other (omega (arith, (running.sessions j t at).number, (running.sessions k s here).number, e))
+    apart j t at other e = unlike_numbers j k t.spec.number s.spec.number (running.sessions j t at).number (running.sessions k s here).number other e
 
     part_at : (j : ℕ) (t : Session) (h : SessionHand) → slice_get server.sessions.items j ≡ Some t → slice_get (slice_set old.sessions.items k after) j ≡ Some h → (w : Bool) → (j == k) ≡ w → IsPartOf t old.number h (seen_by new.device_seat)
     part_at j t h there stands true e =
         let same : j ≡ k = eqb-true j k e in
-        let is_s : t ≡ s = let q : Some t ≡ Some s = sym there ∙ (ap (λ (m : ℕ). slice_get server.sessions.items m) same ∙ here) in cc q in
+        let is_s : t ≡ s = let q : Some t ≡ Some s = sym there ∙ (ap (λ (m : ℕ). slice_get server.sessions.items m) same ∙ here) in same_Some t s q in
         let is_after : h ≡ after = set_here old.sessions.items k after h (sym (ap (λ (m : ℕ). slice_get (slice_set old.sessions.items k after) m) same) ∙ stands) in
         let was = own.each k s before here l.stood in
         subst (λ (x : SessionHand). IsPartOf t old.number x (seen_by new.device_seat)) (sym is_after)
@@ -126,7 +127,7 @@ module _ {D : Type 0} {g : disk.Ghosts D} (server : Server D g) (old new : Hand 
     pub still_its_hand : IsHandOf server new
     still_its_hand =
         record {
-          number = omega (arith, own.number, l.number);
+          number = subst (λ (n : ℕ). n < server.hands) (sym l.number) own.number;
           device = record {
             book_is = l.served.stepped.seat.0.0 ∙ own.device.book_is;
             outside = l.served.stepped.seat.1;
@@ -135,10 +136,10 @@ module _ {D : Type 0} {g : disk.Ghosts D} (server : Server D g) (old new : Hand 
           };
           pool = l.served.claims.pool_is ∙ own.pool;
           count = ap length l.sessions_are ∙ (length-set old.sessions.items k after ∙ own.count);
-          next = omega (arith, own.next, l.next);
+          next = subst (λ (n : ℕ). n ≤ length server.sessions.items) (sym l.next) own.next;
           each = λ j t h there stands. subst (λ (n : ℕ). IsPartOf t n h (seen_by new.device_seat)) (sym l.number) (part_at j t h there (ap (λ (x : List SessionHand). slice_get x j) (sym l.sessions_are) ∙ stands) (j == k) refl);
           named = subst (λ (n : ℕ). AreNamed (length server.sessions.items) n (seen_by new.device_seat)) (sym l.number)
-              (named_still (length server.sessions.items) old.number s.spec.number (omega (arith, (running.sessions k s here).number), omega (arith, (running.sessions k s here).number, slice_get_within server.sessions.items k s here)) l.served.stepped.steps (seen_by old.device_seat) (seen_by new.device_seat) l.served.stepped.added l.served.stepped.named own.named);
+              (named_still (length server.sessions.items) old.number s.spec.number (from_one k s.spec.number (running.sessions k s here).number, up_to_count k s.spec.number (length server.sessions.items) (running.sessions k s here).number (slice_get_within server.sessions.items k s here)) l.served.stepped.steps (seen_by old.device_seat) (seen_by new.device_seat) l.served.stepped.added l.served.stepped.named own.named);
           closing = λ e. subst (λ (r : Option (ClosingRoom D g)). MatchOption r ⊥ (IsClosingRoom server.hands (length server.sessions.items))) (sym l.closing) (own.closing (sym l.number ∙ e));
         }
 
@@ -151,7 +152,7 @@ module _ {D : Type 0} {g : disk.Ghosts D} (server : Server D g) (old new : Hand 
           ap (λ (n : ℕ). sum_by (frames_out n) new.sessions.items + frames_out old.number before) l.number
           ∙ (ap (λ (x : List SessionHand). sum_by (frames_out old.number) x + frames_out old.number before) l.sessions_are
           ∙ sum_set (frames_out old.number) old.sessions.items k before after l.stood) in
-          omega (arith, sums, l.served.frames);
+          same_change (given_back new.pool_seat) (given_back old.pool_seat) (frames_of new) (frames_of old) (frames_out old.number before) (frames_out old.number after) sums l.served.frames;
     }
 
 -- the same hand with another state of its seat at the pool
