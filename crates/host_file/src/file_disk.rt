@@ -94,12 +94,7 @@ impl<F: RawFile> Disk for FileDisk<F> {
 
     ghost of_size = { λ d told. untold told };
 
-    fn attach_image(
-        &mut self,
-        name: &str,
-        size: BlockSize,
-        writes: bool,
-    ) -> Result<u64, DiskError>
+    fn attach_image(&mut self, name: &str, size: BlockSize, writes: bool) -> Result<u64, DiskError>
         ensures attaches { Attaches size writes [] (shape_of self.old) (shape_of self.new) (state_of self.new) result }
         ensures calls { Calls (counts_of self.old) (counts_of self.old) (counts_of self.new) false false result }
         // What no disk owes but this one.

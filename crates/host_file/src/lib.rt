@@ -14,4 +14,3 @@ pub use real_file::RealFile;
 pub use std_sink::StdSink;
 pub use std_source::StdSource;
 pub use words::{WordsError, program_words};
-

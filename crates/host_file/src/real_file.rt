@@ -35,7 +35,11 @@ impl<R: Files<File = File>> RawFile for RealFile<R> {
     fn open(&mut self, name: &str, writes: bool) -> Result<u64, OpenError> {
         self.file = None;
         let file = open_file(&self.files, name, writes).ok_or(OpenError::Failed)?;
-        let locked = if writes { file.try_lock() } else { file.try_lock_shared() };
+        let locked = if writes {
+            file.try_lock()
+        } else {
+            file.try_lock_shared()
+        };
         match locked {
             Ok(()) => {}
             Err(TryLockError::WouldBlock) => return Err(OpenError::Held),
@@ -86,5 +90,9 @@ fn options(writes: bool) -> OpenOptions
 // The length of a regular file.
 fn length_of(file: &File) -> Option<u64> {
     let about = file.metadata().ok()?;
-    if about.is_file() { Some(about.len()) } else { None }
+    if about.is_file() {
+        Some(about.len())
+    } else {
+        None
+    }
 }
