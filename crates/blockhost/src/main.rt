@@ -3,7 +3,7 @@
 //! a summary. `blockhost list IMAGE` prints the partition table, `blockhost make SEED SESSIONS REQUESTS` a generated script.
 #![tactic(auto)]
 
-use host_file::{FileDisk, StdSink, StdSource, WordsError, program_words};
+use host_file::{FileDisk, RealFile, StdSink, StdSource, WordsError, program_words};
 use host_io::OpenGate;
 use host_run::run;
 use std::alloc::AllocError;
@@ -25,15 +25,15 @@ fn main(rt: HostRuntime) -> ExitCode {
 // status.
 fn run_program<R: Threads + Wait + Sync>(rt: &HostRuntime, threads: &R) -> io::Result<u8> {
     // The number of a standard stream that is closed goes to a folder, which takes no text. Else the image would get it, and
-    // the text of the run with it.
-    let _in = File::open(rt, "/");
-    let _out = File::open(rt, "/");
-    let _err = File::open(rt, "/");
+    // the text of the run with it. So nothing is run where that fails.
+    let _in = File::open(rt, "/")?;
+    let _out = File::open(rt, "/")?;
+    let _err = File::open(rt, "/")?;
     let args = words_of(rt)?;
     let words: Vec<&str> = args.iter().map(|arg| arg.as_str()).collect(rt.alloc())?;
     let mut script = StdSource::new(rt.reader());
     let mut out = StdSink::new(io::writer(rt));
-    let disk = FileDisk::new(rt.clone()?);
+    let disk = FileDisk::new(RealFile::new(rt.clone()?));
     let outcome = run(
         threads,
         rt.alloc(),
@@ -43,6 +43,9 @@ fn run_program<R: Threads + Wait + Sync>(rt: &HostRuntime, threads: &R) -> io::R
         &mut out,
         &OpenGate,
     );
+    if outcome.disk.is_held() {
+        let _ = eprintln!(rt; "blockhost: another program has the image");
+    }
     let number = outcome.status.number();
     // The process ends now, and its memory goes back with it. Giving back a long report piece by piece would take longer.
     forget(outcome);

@@ -1,2 +1,3 @@
 pub mod FileDisks
+pub mod StdStreams
 pub mod Untold

@@ -1,41 +1,42 @@
 //! A file as a disk.
 
 ghost use Rattle.std.specs.Prelude.{◌≡◌, ◌*◌, ◌^◌, ◌<◌};
-ghost use Rattle.host_io.specs.Causes.{next_count};
-ghost use Rattle.host_io.specs.declared.disk.DiskError.TheVariants.{Failed};
 
+use crate::{OpenError, RawFile};
 use host_block::BlockSize;
 use host_io::{Counts, Disk, DiskError};
-use std::fs::{self, File, OpenOptions};
-use std::os::unix::fs::FileExt;
-use std::rt::Files;
 
-/// A disk whose images are files, which takes a name as a path and tells nothing of their content. A file without bytes
-/// is no image.
+/// A disk whose images are files, which takes a name as a path and tells nothing of their content. After a sync that
+/// failed, what was written before may be lost though a later sync of the system is answered well; so each sync fails then,
+/// until an image is attached.
 #[derive(Drop)]
-pub struct FileDisk<R> {
-    files: R,
-    file: Option<File>,
+pub struct FileDisk<F> {
+    raw: F,
+    attached: bool,
     writes: bool,
+    held: bool,
+    lost: bool,
+    bytes: u64,
     blocks: u64,
     size: u32,
     counts: Counts,
     ghost within: { blocks * size < 2 ^ 64 },
 }
 
-impl<R: Files<File = File>> FileDisk<R> {
-    ghost use Rattle.std.specs.Prelude.{false};
-    ghost use Rattle.host_file.specs.FileDisks.{shape_of};
+impl<F: RawFile> FileDisk<F> {
+    ghost use Rattle.host_file.specs.FileDisks.{IsMadeOf, is_held};
 
     /// A disk to which no image is attached.
-    pub fn new(files: R) -> FileDisk<R>
-        ensures not_attached { (shape_of result).attached ≡ false }
-        ensures not_writable { (shape_of result).writable ≡ false }
+    pub fn new(raw: F) -> FileDisk<F>
+        ensures { IsMadeOf raw result }
     {
         FileDisk {
-            files,
-            file: None,
+            raw,
+            attached: false,
             writes: false,
+            held: false,
+            lost: false,
+            bytes: 0,
             blocks: 0,
             size: 0,
             counts: Counts {
@@ -47,34 +48,43 @@ impl<R: Files<File = File>> FileDisk<R> {
         }
     }
 
-    // Opens the file, and gives its length. What is no file isn't opened, since the opening of a named pipe waits for a writer.
-    fn open(&self, name: &str, writes: bool) -> Option<(File, u64)> {
-        if !fs::metadata(&self.files, name).ok()?.is_file() {
-            return None;
-        }
-        let file = OpenOptions::new()
-            .read(true)
-            .write(writes)
-            .open(&self.files, name)
-            .ok()?;
-        let about = file.metadata().ok()?;
-        if !about.is_file() || about.len() == 0 {
-            return None;
-        }
-        Some((file, about.len()))
+    /// Whether the last attach failed because another program has the image.
+    pub fn is_held(&self) -> bool
+        ensures { result ≡ is_held self.now }
+    {
+        self.held
     }
 }
 
-impl<R: Files<File = File>> Disk for FileDisk<R> {
-    ghost use Rattle.std.specs.Prelude.{false, []};
-    ghost use Rattle.host_file.specs.FileDisks.{shape_of};
+impl<F: RawFile> FileDisk<F> {
+    ghost use Rattle.std.specs.Prelude.{◌+◌, ◌≤◌, length};
+    ghost use Rattle.std.specs.Bool.{OnTrue, OnFalse};
+    ghost use Rattle.host_file.specs.FileDisks.{HasRoom, HasNoRoom};
+
+    // Whether the file still has the bytes of a block at this place, so that a write of it doesn't make it grow.
+    fn has_room(&self, place: u64) -> bool
+        ensures yes { OnTrue result (HasRoom F.measures self.now place) }
+        ensures no { OnFalse result (HasNoRoom F.measures self.now place) }
+    {
+        match self.raw.length() {
+            None => false,
+            Some(bytes) => place <= bytes && u64::from(self.size) <= bytes - place,
+        }
+    }
+}
+
+impl<F: RawFile> Disk for FileDisk<F> {
+    ghost use Rattle.std.specs.Prelude.{◌≡◌, ◌*◌, ◌<◌, false, [], length};
+    ghost use Rattle.host_io.specs.Causes.{faults_after};
+    ghost use Rattle.host_io.specs.Disks.{Calls, read_counted, write_counted, sync_counted, Attaches};
+    ghost use Rattle.host_file.specs.FileDisks.{shape_of, counts_of, state_of, Opens, Takes, Puts, Syncs, IsLatchKept};
     ghost use Rattle.host_file.specs.Untold.{untold};
 
     ghost shape = { λ d. shape_of d };
 
-    ghost counts = { λ d. d.counts };
+    ghost counts = { λ d. counts_of d };
 
-    ghost state = { λ d. record { durable = []; pending = [] } };
+    ghost state = { λ d. state_of d };
 
     ghost opening = { λ d. [] };
 
@@ -84,49 +94,85 @@ impl<R: Files<File = File>> Disk for FileDisk<R> {
 
     ghost of_size = { λ d told. untold told };
 
-    fn attach_image(
-        &mut self,
-        name: &str,
-        size: BlockSize,
-        writes: bool,
-    ) -> Result<u64, DiskError> {
-        let (file, bytes) = match self.open(name, writes) {
-            Some(found) => found,
-            None => return Err(failed(&mut self.counts)),
-        };
-        self.file = Some(file);
+    fn attach_image(&mut self, name: &str, size: BlockSize, writes: bool) -> Result<u64, DiskError>
+        ensures attaches { Attaches size writes [] (shape_of self.old) (shape_of self.new) (state_of self.new) result }
+        ensures calls { Calls (counts_of self.old) (counts_of self.old) (counts_of self.new) false false result }
+        // What no disk owes but this one.
+        ensures faults { (counts_of self.new).faults ≡ faults_after result (counts_of self.old).faults }
+        ensures opens { Opens F.opens self.old self.new name.now size writes result }
+    {
+        self.attached = false;
+        self.writes = false;
+        self.held = false;
+        match self.raw.open(name, writes) {
+            Ok(bytes) => self.bytes = bytes,
+            Err(error) => {
+                self.held = error == OpenError::Held;
+                return Err(failed(&mut self.counts));
+            }
+        }
+        self.attached = true;
         self.writes = writes;
+        self.lost = false;
         self.size = size.bytes();
-        self.blocks = bytes / u64::from(self.size);
+        self.blocks = self.bytes / u64::from(self.size);
         Ok(self.blocks)
     }
 
-    fn read_block(&mut self, b: u64, into: &mut [u8]) -> Result<(), DiskError> {
+    fn read_block(&mut self, b: u64, into: &mut [u8]) -> Result<(), DiskError>
+        requires block { b < (shape_of self.old).blocks }
+        requires piece { length into.old ≡ (shape_of self.old).size }
+        ensures shape { shape_of self.new ≡ shape_of self.old }
+        ensures calls { Calls (counts_of self.old) (read_counted (counts_of self.old)) (counts_of self.new) false false result }
+        // What no disk owes but this one.
+        ensures faults { (counts_of self.new).faults ≡ faults_after result (counts_of self.old).faults }
+        ensures latch { IsLatchKept self.old self.new }
+        ensures takes { Takes F.reads self.old self.new b into.new result }
+    {
         self.counts.reads = self.counts.reads.saturating_add(1);
         let place = b * u64::from(self.size);
-        match &self.file {
-            Some(file) if file.read_exact_at(into, place).is_ok() => Ok(()),
-            _ => Err(failed(&mut self.counts)),
+        if self.attached && self.raw.read_at(place, into).is_ok() {
+            return Ok(());
         }
+        Err(failed(&mut self.counts))
     }
 
-    fn write_block(&mut self, b: u64, from: &[u8]) -> Result<(), DiskError> {
+    fn write_block(&mut self, b: u64, from: &[u8]) -> Result<(), DiskError>
+        requires block { b < (shape_of self.old).blocks }
+        requires piece { length from.now ≡ (shape_of self.old).size }
+        ensures shape { shape_of self.new ≡ shape_of self.old }
+        ensures calls { Calls (counts_of self.old) (write_counted (counts_of self.old)) (counts_of self.new) false false result }
+        // What no disk owes but this one.
+        ensures faults { (counts_of self.new).faults ≡ faults_after result (counts_of self.old).faults }
+        ensures latch { IsLatchKept self.old self.new }
+        ensures puts { Puts F.measures F.puts self.old self.new b from.now result }
+    {
         self.counts.writes = self.counts.writes.saturating_add(1);
         let place = b * u64::from(self.size);
-        match &self.file {
-            Some(file) if self.writes && file.write_all_at(from, place).is_ok() => Ok(()),
-            _ => Err(failed(&mut self.counts)),
+        if self.writes && self.has_room(place) && self.raw.write_at(place, from).is_ok() {
+            return Ok(());
         }
+        Err(failed(&mut self.counts))
     }
 
-    fn sync(&mut self) -> Result<(), DiskError> {
+    fn sync(&mut self) -> Result<(), DiskError>
+        ensures shape { shape_of self.new ≡ shape_of self.old }
+        ensures calls { Calls (counts_of self.old) (sync_counted (counts_of self.old)) (counts_of self.new) false false result }
+        // What no disk owes but this one.
+        ensures faults { (counts_of self.new).faults ≡ faults_after result (counts_of self.old).faults }
+        ensures syncs { Syncs F.syncs self.old self.new result }
+    {
         self.counts.syncs = self.counts.syncs.saturating_add(1);
-        match &self.file {
-            Some(file) if self.writes && file.sync_all().is_ok() => Ok(()),
-            _ => Err(failed(&mut self.counts)),
+        if self.writes && !self.lost && self.raw.sync().is_ok() {
+            return Ok(());
         }
+        self.lost = true;
+        Err(failed(&mut self.counts))
     }
 }
+
+ghost use Rattle.host_io.specs.Causes.{next_count};
+ghost use Rattle.host_io.specs.declared.disk.DiskError.TheVariants.{Failed};
 
 // Counts a failure.
 fn failed(counts: &mut Counts) -> DiskError

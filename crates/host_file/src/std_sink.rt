@@ -12,19 +12,26 @@ pub struct StdSink<W> {
 }
 
 impl<W: Write> StdSink<W> {
-    pub fn new(writer: W) -> StdSink<W> {
+    ghost use Rattle.std.specs.Prelude.{◌≡◌};
+    ghost use Rattle.host_file.specs.StdStreams.{sink_faults};
+
+    /// A sink that hasn't failed.
+    pub fn new(writer: W) -> StdSink<W>
+        ensures { sink_faults result ≡ 0 }
+    {
         StdSink { writer, faults: 0 }
     }
 }
 
 impl<W: Write> Sink for StdSink<W> {
     ghost use Rattle.std.specs.Prelude.{false, []};
+    ghost use Rattle.host_file.specs.StdStreams.{sink_faults};
 
     ghost tells = { λ s. false };
 
     ghost appended = { λ s. [] };
 
-    ghost faults = { λ s. s.faults };
+    ghost faults = { sink_faults };
 
     fn put(&mut self, from: &[u8]) -> Result<usize, SinkFailed> {
         match write(&mut self.writer, from) {

@@ -1,8 +1,9 @@
 // A disk of blocks.
-ghost use Rattle.std.specs.Prelude.{◌≡◌, ◌<◌, ℕ, Bool, List, length, IsTrue};
+ghost use Rattle.std.specs.Prelude.{◌≡◌, ◌<◌, ℕ, Bool, List, length, IsTrue, IsErrOf};
 ghost use Rattle.host_block.specs.Disk.{DiskState, read, write, sync, Leads, IsOfSize};
 ghost use Rattle.host_io.specs.Disks.{Shape, Calls, read_counted, write_counted, sync_counted, outcome_of, Attaches, Reads};
 ghost use Rattle.host_io.specs.declared.counts.Counts.{Counts};
+ghost use Rattle.host_io.specs.declared.disk.DiskError.TheVariants.{Oom};
 
 use host_block::BlockSize;
 use thiserror::Error;
@@ -30,7 +31,8 @@ pub trait Disk {
     /// The bytes that it was made with. A disk that tells none has the empty list.
     ghost opening: { Self → List ℕ };
 
-    /// The blocks that an attach under this name and at this size gives, where it tells.
+    /// The blocks that an attach under this name and at this size gives, where it tells. No read changes them, and no call
+    /// that was refused memory.
     ghost image_named: { Self → List ℕ → ℕ → List (List ℕ) };
 
     /// Whether no call of it ever fails.
@@ -41,6 +43,7 @@ pub trait Disk {
     fn attach_image(&mut self, name: &str, size: BlockSize, writes: bool) -> Result<u64, DiskError>
         ensures attaches { Attaches size writes (image_named self.old name.now size) (shape self.old) (shape self.new) (state self.new) result }
         ensures opening { opening self.new ≡ opening self.old }
+        ensures named { IsErrOf result Oom → image_named self.new ≡ image_named self.old }
         ensures calls { Calls (counts self.old) (counts self.old) (counts self.new) (never_fails self.old) (never_fails self.new) result };
 
     /// Reads block `b`. Where it fails, `into` may hold anything.
@@ -51,6 +54,7 @@ pub trait Disk {
         ensures state { state self.new ≡ state self.old }
         ensures opening { opening self.new ≡ opening self.old }
         ensures bytes { Reads (shape self.old).tells (state self.old) b into.new result }
+        ensures named { image_named self.new ≡ image_named self.old }
         ensures calls { Calls (counts self.old) (read_counted (counts self.old)) (counts self.new) (never_fails self.old) (never_fails self.new) result };
 
     /// Writes block `b`, which a sync makes durable.
@@ -60,6 +64,7 @@ pub trait Disk {
         ensures shape { shape self.new ≡ shape self.old }
         ensures state { IsTrue (shape self.old).tells → Leads (write b from.now (outcome_of result)) (state self.old) (state self.new) }
         ensures opening { opening self.new ≡ opening self.old }
+        ensures named { IsErrOf result Oom → image_named self.new ≡ image_named self.old }
         ensures calls { Calls (counts self.old) (write_counted (counts self.old)) (counts self.new) (never_fails self.old) (never_fails self.new) result };
 
     /// Makes the pending writes durable.
@@ -67,6 +72,7 @@ pub trait Disk {
         ensures shape { shape self.new ≡ shape self.old }
         ensures state { IsTrue (shape self.old).tells → Leads (sync (outcome_of result)) (state self.old) (state self.new) }
         ensures opening { opening self.new ≡ opening self.old }
+        ensures named { IsErrOf result Oom → image_named self.new ≡ image_named self.old }
         ensures calls { Calls (counts self.old) (sync_counted (counts self.old)) (counts self.new) (never_fails self.old) (never_fails self.new) result };
 
     /// The state of a disk that tells has its number and size of blocks.

@@ -90,13 +90,14 @@ impl MemDisk {
 }
 
 impl Disk for MemDisk {
-    ghost use Rattle.std.specs.Prelude.{◌≡◌, ◌<◌, true, length, OnErr};
+    ghost use Rattle.std.specs.Prelude.{◌≡◌, ◌<◌, true, length, OnErr, IsErrOf};
     ghost use Rattle.host_block.specs.Disk.{Leads, write, sync};
     ghost use Rattle.host_io.specs.Causes.{next_count};
     ghost use Rattle.host_io.specs.Disks.{Calls, read_counted, write_counted, sync_counted, outcome_of, Attaches, Reads};
     ghost use Rattle.host_io.specs.Fails.{part_listed};
     ghost use Rattle.host_io.specs.FlatShape.{cut_of_size};
     ghost use Rattle.host_io.specs.MemDisk.{opening_of, counts_of, shape_of, state_of, image_held, held_by, rest_of, never_fails_of, fails_of, attaches_of, faults_counted, FailsAsListed, WritesAsListed, SyncsAsListed};
+    ghost use Rattle.host_io.specs.declared.disk.DiskError.TheVariants as error;
     ghost use Rattle.host_io.specs.declared.fails.CallKind.TheVariants as kind;
 
     ghost shape = { shape_of };
@@ -116,6 +117,7 @@ impl Disk for MemDisk {
     fn attach_image(&mut self, _name: &str, size: BlockSize, writes: bool) -> Result<u64, DiskError>
         ensures attaches { Attaches size writes (image_held self.old _name.now size) (shape_of self.old) (shape_of self.new) (state_of self.new) result }
         ensures opening { opening_of self.new ≡ opening_of self.old }
+        ensures named { IsErrOf result error.Oom → image_held self.new ≡ image_held self.old }
         ensures calls { Calls (counts_of self.old) (counts_of self.old) (counts_of self.new) (never_fails_of self.old) (never_fails_of self.new) result }
         // What no disk owes but this one.
         ensures fails { FailsAsListed (part_listed (fails_of self.old) kind.Attach (next_count (attaches_of self.old))) result }
@@ -147,11 +149,13 @@ impl Disk for MemDisk {
         ensures state { state_of self.new ≡ state_of self.old }
         ensures opening { opening_of self.new ≡ opening_of self.old }
         ensures bytes { Reads true (state_of self.old) b into.new result }
+        ensures named { image_held self.new ≡ image_held self.old }
         ensures calls { Calls (counts_of self.old) (read_counted (counts_of self.old)) (counts_of self.new) (never_fails_of self.old) (never_fails_of self.new) result }
         // What no disk owes but this one.
         ensures fails { FailsAsListed (part_listed (fails_of self.old) kind.Read (next_count (counts_of self.old).reads)) result }
         ensures faults { (counts_of self.new).faults ≡ faults_counted result (counts_of self.old).faults }
         ensures listed { fails_of self.new ≡ fails_of self.old }
+        ensures attempts { attaches_of self.new ≡ attaches_of self.old }
         ensures rest { rest_of self.new ≡ rest_of self.old }
     {
         self.counts.reads = self.counts.reads.saturating_add(1);
@@ -170,11 +174,13 @@ impl Disk for MemDisk {
         ensures shape { shape_of self.new ≡ shape_of self.old }
         ensures state { Leads (write b from.now (outcome_of result)) (state_of self.old) (state_of self.new) }
         ensures opening { opening_of self.new ≡ opening_of self.old }
+        ensures named { IsErrOf result error.Oom → image_held self.new ≡ image_held self.old }
         ensures calls { Calls (counts_of self.old) (write_counted (counts_of self.old)) (counts_of self.new) (never_fails_of self.old) (never_fails_of self.new) result }
         // What no disk owes but this one.
         ensures fails { WritesAsListed (part_listed (fails_of self.old) kind.Write (next_count (counts_of self.old).writes)) (state_of self.old) (state_of self.new) b from.now result }
         ensures faults { (counts_of self.new).faults ≡ faults_counted result (counts_of self.old).faults }
         ensures listed { fails_of self.new ≡ fails_of self.old }
+        ensures attempts { attaches_of self.new ≡ attaches_of self.old }
         ensures rest { rest_of self.new ≡ rest_of self.old }
     {
         self.counts.writes = self.counts.writes.saturating_add(1);
@@ -193,11 +199,13 @@ impl Disk for MemDisk {
         ensures shape { shape_of self.new ≡ shape_of self.old }
         ensures state { Leads (sync (outcome_of result)) (state_of self.old) (state_of self.new) }
         ensures opening { opening_of self.new ≡ opening_of self.old }
+        ensures named { IsErrOf result error.Oom → image_held self.new ≡ image_held self.old }
         ensures calls { Calls (counts_of self.old) (sync_counted (counts_of self.old)) (counts_of self.new) (never_fails_of self.old) (never_fails_of self.new) result }
         // What no disk owes but this one.
         ensures fails { SyncsAsListed (part_listed (fails_of self.old) kind.Sync (next_count (counts_of self.old).syncs)) (state_of self.old) (state_of self.new) result }
         ensures faults { (counts_of self.new).faults ≡ faults_counted result (counts_of self.old).faults }
         ensures listed { fails_of self.new ≡ fails_of self.old }
+        ensures attempts { attaches_of self.new ≡ attaches_of self.old }
         ensures rest { rest_of self.new ≡ rest_of self.old }
     {
         self.counts.syncs = self.counts.syncs.saturating_add(1);

@@ -1,14 +1,10 @@
-ghost use Rattle.std.specs.Prelude.{◌≡◌, ◌<◌};
-
-use crate::{FileDisk, StdSink, StdSource, WordsError, program_words};
-use host_block::BlockSize;
-use host_io::{Disk, DiskError, Sink, Source};
+use host_file::{StdSink, StdSource, WordsError, program_words};
+use host_io::{Sink, Source};
 use std::env::FillError;
+use std::fs;
 use std::io::pipe;
-use std::process::Process;
 use std::rt::Env;
 use std::test::Fail;
-use std::{fs, process};
 
 #[test]
 fn a_real_pipe(rt: HostRuntime) -> Result<(), Fail> {
@@ -32,45 +28,6 @@ fn a_real_refusal(rt: HostRuntime) -> Result<(), Fail> {
     let mut into = [0u8; 5];
     let folder = fs::open(&rt, "/")?;
     assert!(rt; StdSource::new(folder).take(&mut into).is_err());
-    let size = BlockSize::new(512).ok_or("size")?;
-    let mut disk = FileDisk::new(rt.clone()?);
-    for name in ["/", "/no/such/image", ""] {
-        assert!(rt; disk.attach_image(name, size, false) == Err(DiskError::Failed));
-    }
-    Ok(())
-}
-
-// Writes block 1 and reads it again.
-fn writes_and_reads<D: Disk>(disk: &mut D, blocks: u64) -> bool
-    requires blocks { blocks ≡ (D.shape disk.old).blocks }
-    requires two { 1 < blocks }
-    requires size { (D.shape disk.old).size ≡ 512 }
-{
-    let mut into = [0u8; 512];
-    disk.write_block(1, &[1; 512]).is_ok()
-        && disk.sync().is_ok()
-        && disk.read_block(1, &mut into).is_ok()
-        && into == [1; 512]
-}
-
-#[test]
-fn a_real_file(rt: HostRuntime) -> Result<(), Fail> {
-    let alloc = rt.alloc();
-    let id = process::id(rt.process());
-    let name = format!(in alloc; "/tmp/blockhost-{id}.img")?;
-    let size = BlockSize::new(512).ok_or("size")?;
-    assert_eq!(rt; size.bytes(), 512);
-    let mut disk = FileDisk::new(rt.clone()?);
-    fs::write(&rt, &name, b"")?;
-    assert!(rt; disk.attach_image(&name, size, false) == Err(DiskError::Failed));
-    fs::write(&rt, &name, vec![in alloc; 7u8; 1030]?.as_slice())?;
-    for (writes, worked) in [(true, true), (false, false)] {
-        match disk.attach_image(&name, size, writes) {
-            Ok(2) => assert_eq!(rt; writes_and_reads(&mut disk, 2), worked),
-            _ => return Err(Fail::from("no image of two blocks")),
-        }
-    }
-    fs::remove_file(&rt, &name)?;
     Ok(())
 }
 
@@ -104,7 +61,7 @@ impl Env for System {
 #[test]
 fn words_of_a_system(rt: HostRuntime) -> Result<(), Fail> {
     let text = System {
-        words: &[b"blockhost", b"list", b"base.img"],
+        words: &[b"block\xffhost", b"list", b"base.img"],
     };
     let words = program_words(&(text, rt.alloc())).or(Err("words"))?;
     assert_eq!(rt; words.len(), 2);

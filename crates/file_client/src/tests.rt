@@ -1,0 +1,3 @@
+mod listed_calls;
+mod real_files;
+mod streams;

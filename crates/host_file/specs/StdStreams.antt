@@ -1,0 +1,10 @@
+-- How often a stream of the system has failed.
+use Rattle.std.specs.Prelude.{ℕ}
+use Rattle.host_file.specs.declared.std_sink.StdSink.{StdSink}
+use Rattle.host_file.specs.declared.std_source.StdSource.{StdSource}
+
+abbrev pub sink_faults : {W : Type 0} → StdSink W → ℕ
+sink_faults s = s.faults
+
+abbrev pub source_faults : {R : Type 0} → StdSource R → ℕ
+source_faults s = s.faults
