@@ -1,12 +1,12 @@
+mod pool;
+
 use crate::{Done, Job, work_together};
 use host_block::BlockSize;
 use std::test::*;
 
 #[test]
 fn four_threads_share_a_pool(rt: HostRuntime) -> Result<(), Fail> {
-    let Some(size) = BlockSize::new(512) else {
-        return Err(Fail::from("512 is a size"));
-    };
+    let size = BlockSize::new(512).ok_or("size")?;
     let job = Job {
         frames: 12,
         size,

@@ -1,3 +1,5 @@
+mod cells;
+
 use crate::{Outcomes, Round, run_rounds};
 use host_group::GroupEnd;
 use host_record::Status;

@@ -20,6 +20,3 @@ pub use op::Op;
 pub use range::Range;
 pub use reserved_list::ReservedList;
 pub use size::BlockSize;
-
-#[cfg(test)]
-mod tests;

@@ -13,6 +13,3 @@ pub use cache::{Cache, NoCache};
 pub use error::CacheError;
 pub use laws::{flush_is_kept, flush_survives, read_survives, write_survives};
 pub use line::{ENTRIES, Line, Victim};
-
-#[cfg(test)]
-mod tests;

@@ -14,6 +14,3 @@ pub use error::StepError;
 pub use fixed::DeviceFixed;
 pub use host_model::{Step, Steps};
 pub use laws::{crash_after_flush, crash_inside_step};
-
-#[cfg(test)]
-mod tests;

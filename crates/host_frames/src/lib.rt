@@ -18,6 +18,3 @@ pub use pages::Pages;
 pub use pool::Pool;
 pub use pool_name::PoolName;
 pub use seat::PoolSeat;
-
-#[cfg(test)]
-mod tests;

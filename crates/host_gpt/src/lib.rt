@@ -24,6 +24,3 @@ pub use reader::read_table;
 pub use table::{Entries, Table};
 pub use table_error::TableError;
 pub use which::Which;
-
-#[cfg(test)]
-mod tests;

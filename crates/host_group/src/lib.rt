@@ -20,6 +20,3 @@ pub use cells_name::CellsName;
 pub use group_end::GroupEnd;
 pub use plain_cells::{PlainCell, PlainCells};
 pub use seat::CellSeat;
-
-#[cfg(test)]
-mod tests;

@@ -23,6 +23,3 @@ pub use mem_sink::MemSink;
 pub use mem_source::MemSource;
 pub use sink::{Sink, SinkFailed};
 pub use source::{Source, SourceFailed};
-
-#[cfg(test)]
-mod tests;

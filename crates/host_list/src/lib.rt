@@ -16,6 +16,3 @@ pub use image::list_image;
 pub use laws::test_tells_served;
 pub use list::write_list;
 pub use list_error::ListError;
-
-#[cfg(test)]
-mod tests;

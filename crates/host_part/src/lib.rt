@@ -8,6 +8,3 @@ mod parts;
 pub use laws::{one_range, range_lies_inside, ranges_share_no_block};
 pub use part_error::PartError;
 pub use parts::{Parts, serve};
-
-#[cfg(test)]
-mod tests;

@@ -13,6 +13,3 @@ pub use opcode::Opcode;
 pub use request::Request;
 pub use response::Response;
 pub use status::Status;
-
-#[cfg(test)]
-mod tests;

@@ -12,6 +12,3 @@ pub use laws::ranges_lie_in_image;
 pub use report::Report;
 pub use session::{SessionReport, SessionReports};
 pub use text::{write_report, write_summary};
-
-#[cfg(test)]
-mod tests;

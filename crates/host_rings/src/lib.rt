@@ -28,6 +28,3 @@ pub use slip::Slip;
 pub use slip_sender::SlipSender;
 pub use slip_taker::SlipTaker;
 pub use taker::Taker;
-
-#[cfg(test)]
-mod tests;

@@ -24,6 +24,3 @@ pub use print::print_script;
 pub use script_model::{
     Limit, ParseError, Script, ScriptCause, ScriptLine, ScriptLines, SessionScript, SessionScripts,
 };
-
-#[cfg(test)]
-mod tests;

@@ -16,6 +16,3 @@ pub use places::Place;
 pub use ready::{NotReady, ReadyCopy, start_on_copy, start_on_disk};
 pub use script::{make_script, read_script};
 pub use start::Start;
-
-#[cfg(test)]
-mod tests;

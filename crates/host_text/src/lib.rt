@@ -8,6 +8,3 @@ mod word;
 pub use held::Held;
 pub use line::put_line;
 pub use word::Word;
-
-#[cfg(test)]
-mod tests;

@@ -13,6 +13,3 @@ mod words_error;
 pub use command::Command;
 pub use reader::read_words;
 pub use words_error::WordsError;
-
-#[cfg(test)]
-mod tests;

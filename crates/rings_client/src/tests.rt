@@ -1,2 +1,3 @@
 mod answers;
+mod one_thread;
 mod requests;

@@ -1,0 +1,5 @@
+mod crcs;
+mod damaged;
+mod headers;
+mod parts;
+mod reader;

@@ -1,0 +1,5 @@
+mod codec;
+mod report;
+mod script;
+mod texts;
+mod words;
