@@ -26,7 +26,9 @@ pub fn look_at_images(
     left: &Left,
     is_good: bool,
 ) -> Result<(), Wrong> {
-    let size = left.size().ok_or(Wrong::Play { what: "no size" })?;
+    let Some(size) = left.size() else {
+        return Err(Wrong::Play { what: "no size" });
+    };
     let blocks = setup.image.len() as u64 / 512;
     let is_asked = case.wanted.iter().any(|line| is_of_image(&line.wanted));
     if blocks > SMALL && !(is_asked && is_good) {

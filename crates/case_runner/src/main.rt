@@ -57,20 +57,15 @@ fn tell(rt: &HostRuntime, case: &Case<'_>, found: Result<(), Finding<'_>>) -> io
         println!(rt; "{name}: {wrong}")?;
         return Ok(false);
     }
-    match found {
-        Ok(()) if case.is_to_differ => {
-            println!(rt; "{name}: nothing differs")?;
-            Ok(false)
-        }
-        Err(finding) if !case.is_to_differ => {
-            show(rt, name, &finding)?;
-            Ok(false)
-        }
-        _ => {
-            println!(rt; "{name} ok")?;
-            Ok(true)
-        }
+    if found.is_err() == case.is_to_differ {
+        println!(rt; "{name} ok")?;
+        return Ok(true);
     }
+    match &found {
+        Ok(()) => println!(rt; "{name}: nothing differs")?,
+        Err(finding) => show(rt, name, finding)?,
+    }
+    Ok(false)
 }
 
 // Prints what differs, with the output.
