@@ -6,7 +6,7 @@ use Rattle.host_model.specs.Verdict.{judged}
 use Rattle.host_record.specs.Command.{opcode}
 use Rattle.model_rows.proofs.Lawful.{lawful_from}
 use Rattle.model_rows.specs.LawfulSessions.{SessionsAreLawful}
-use Rattle.model_rows.specs.Sessions.{failed_group, faults, twins, realistic, open_group, short, closed_buffer, untaken_close, group_again, aborted, late_attach}
+use Rattle.model_rows.specs.Sessions.{read_and_close, failed_group, faults, twins, realistic, open_group, short, closed_buffer, untaken_close, group_again, aborted, late_attach}
 
 pub failed_group_is_lawful : IsLawfulSession failed_group
 unfolding opcode judged
@@ -86,6 +86,27 @@ closed_buffer_is_lawful = lawful_from closed_buffer (
   record { entries = refl; ids = refl },
   record { shows = refl; lifts = refl },
   (refl, (refl, (refl, tt))),
+  refl,
+  refl,
+  refl,
+  refl,
+  refl,
+  refl,
+  refl,
+  refl,
+)
+
+pub read_and_close_is_lawful : IsLawfulSession read_and_close
+unfolding opcode judged
+read_and_close_is_lawful = lawful_from read_and_close (
+  record { numbered = refl; only_sent = lit≤ tt; verdicts = refl; ends = refl; all_taken = λ _. refl; ids = refl },
+  (record { steps = refl; outcome = refl }, (record { steps = refl; outcome = refl }, tt)),
+  refl,
+  refl,
+  λ _. refl,
+  record { entries = refl; ids = refl },
+  record { shows = refl; lifts = refl },
+  (refl, (refl, tt)),
   refl,
   refl,
   refl,
@@ -265,6 +286,7 @@ sessions_are_lawful = record {
   group_again_is_lawful = group_again_is_lawful;
   open_group_is_lawful = open_group_is_lawful;
   closed_buffer_is_lawful = closed_buffer_is_lawful;
+  read_and_close_is_lawful = read_and_close_is_lawful;
   late_attach_is_lawful = late_attach_is_lawful;
   faults_is_lawful = faults_is_lawful;
   short_is_lawful = short_is_lawful;

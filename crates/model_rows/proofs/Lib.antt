@@ -14,6 +14,7 @@ pub mod Records
 pub mod ReportTexts
 pub mod Rings
 pub mod Scripts
+pub mod SessionFields
 pub mod Table
 pub mod Turns
 pub mod Words

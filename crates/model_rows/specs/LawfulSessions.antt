@@ -2,7 +2,7 @@
 use Rattle.std.specs.Prelude.{◌≡◌, [], ◌∷◌, replicate}
 use Rattle.host_model.specs.Answers.{due}
 use Rattle.host_model.specs.LawfulSession.{IsLawfulSession}
-use Rattle.model_rows.specs.Sessions.{failed_group, faults, twins, realistic, open_group, short, closed_buffer, untaken_close, group_again, aborted, late_attach}
+use Rattle.model_rows.specs.Sessions.{failed_group, faults, twins, realistic, read_and_close, open_group, short, closed_buffer, untaken_close, group_again, aborted, late_attach}
 
 pub record SessionsAreLawful : Type 0 where
   pub failed_group_is_lawful : IsLawfulSession failed_group
@@ -10,6 +10,7 @@ pub record SessionsAreLawful : Type 0 where
   pub group_again_is_lawful : IsLawfulSession group_again
   pub open_group_is_lawful : IsLawfulSession open_group
   pub closed_buffer_is_lawful : IsLawfulSession closed_buffer
+  pub read_and_close_is_lawful : IsLawfulSession read_and_close
   pub late_attach_is_lawful : IsLawfulSession late_attach
   pub faults_is_lawful : IsLawfulSession faults
   pub short_is_lawful : IsLawfulSession short

@@ -14,6 +14,7 @@ pub mod ReportTexts
 pub mod Reports
 pub mod Rings
 pub mod Scripts
+pub mod SessionFields
 pub mod Sessions
 pub mod Table
 pub mod Turns

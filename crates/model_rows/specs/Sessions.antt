@@ -57,6 +57,19 @@ closed_buffer = record {
   finish = Drain;
 }
 
+-- ---- a read, and a close of its buffer that was sent before the read was answered
+
+abbrev pub read_and_close : Session
+read_and_close = record {
+  size = 4;
+  range = part;
+  log = Attached 1 1 ∷ send 0 1 1 0 1 1 0 0 ∷ send 1 5 2 0 1 0 0 0 ∷ got status.Ok 1 0 1 ∷ got status.Ok 2 0 1 ∷ Drained ∷ [];
+  rows = accepted status.Ok ∷ accepted status.Ok ∷ [];
+  memory = mem.Attach 1 1 0 ∷ mem.Pin 0 1 2 ∷ mem.Close 1 1 ∷ mem.Land 0 0 1 0 (cells 7) ∷ mem.Done 0 1 ∷ mem.Release 1 ∷ [];
+  steps = step 0 0 op.Read 34 (cells 7) false ∷ [];
+  finish = Drain;
+}
+
 -- ---- a buffer is attached only for records sent after its attach
 abbrev pub late_attach : Session
 late_attach = record {

@@ -13,6 +13,7 @@ ghost use Rattle.model_rows.specs.Records.{RecordsAreAsWritten};
 ghost use Rattle.model_rows.specs.ReportTexts.{ReportsAreAsWritten};
 ghost use Rattle.model_rows.specs.Rings.{RingsAreAsWritten};
 ghost use Rattle.model_rows.specs.Scripts.{TextsAreScripts};
+ghost use Rattle.model_rows.specs.SessionFields.{EachSessionFieldIsNeeded};
 ghost use Rattle.model_rows.specs.Table.{TableIsRead};
 ghost use Rattle.model_rows.specs.Turns.{TurnsAreAsWritten};
 ghost use Rattle.model_rows.specs.Words.{WordsAreCommands};
@@ -112,4 +113,9 @@ pub fn wrong_reports_are_refused()
 /// Sessions that differ in one thing from lawful ones, each refused by the part that it breaks.
 pub fn wrong_sessions_are_refused()
     ensures { WrongSessionsAreRefused }
+{}
+
+/// For each field of a lawful session a session that breaks it.
+pub fn each_session_field_is_needed()
+    ensures { EachSessionFieldIsNeeded }
 {}
