@@ -11,12 +11,14 @@ pub mod MemoryDisks
 pub mod Partitions
 pub mod RealisticScript
 pub mod Records
+pub mod ReportFields
 pub mod ReportTexts
 pub mod Rings
 pub mod Scripts
 pub mod SessionFields
 pub mod Table
 pub mod Turns
+pub mod Verdicts
 pub mod Words
 pub mod WrongReports
 pub mod WrongSessions

@@ -14,7 +14,7 @@ array_crc_holds : (header_of header_block).array_crc ≡ crc_of (array_of image 
 unfolding number_at
 array_crc_holds = refl
 
-is_valid : IsValid image 1
+pub is_valid : IsValid image 1
 unfolding number_at
 is_valid = record {
   agrees = agrees;

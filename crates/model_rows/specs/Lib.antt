@@ -10,6 +10,7 @@ pub mod Partitions
 pub mod Parts
 pub mod RealisticScript
 pub mod Records
+pub mod ReportFields
 pub mod ReportTexts
 pub mod Reports
 pub mod Rings
@@ -18,6 +19,7 @@ pub mod SessionFields
 pub mod Sessions
 pub mod Table
 pub mod Turns
+pub mod Verdicts
 pub mod Words
 pub mod WrongReports
 pub mod WrongSessions

@@ -10,12 +10,14 @@ ghost use Rattle.model_rows.specs.MemoryDisks.{MemoryDisksAreAsWritten};
 ghost use Rattle.model_rows.specs.Partitions.{PartitionsAreServed};
 ghost use Rattle.model_rows.specs.RealisticScript.{RealisticScriptIsPlayed};
 ghost use Rattle.model_rows.specs.Records.{RecordsAreAsWritten};
+ghost use Rattle.model_rows.specs.ReportFields.{EachReportFieldIsNeeded};
 ghost use Rattle.model_rows.specs.ReportTexts.{ReportsAreAsWritten};
 ghost use Rattle.model_rows.specs.Rings.{RingsAreAsWritten};
 ghost use Rattle.model_rows.specs.Scripts.{TextsAreScripts};
 ghost use Rattle.model_rows.specs.SessionFields.{EachSessionFieldIsNeeded};
 ghost use Rattle.model_rows.specs.Table.{TableIsRead};
 ghost use Rattle.model_rows.specs.Turns.{TurnsAreAsWritten};
+ghost use Rattle.model_rows.specs.Verdicts.{VerdictsAreAsWritten};
 ghost use Rattle.model_rows.specs.Words.{WordsAreCommands};
 ghost use Rattle.model_rows.specs.WrongReports.{WrongReportsAreRefused};
 ghost use Rattle.model_rows.specs.WrongSessions.{WrongSessionsAreRefused};
@@ -118,4 +120,14 @@ pub fn wrong_sessions_are_refused()
 /// For each field of a lawful session a session that breaks it.
 pub fn each_session_field_is_needed()
     ensures { EachSessionFieldIsNeeded }
+{}
+
+/// Verdicts on requests, by each check and by the first of two.
+pub fn verdicts_are_as_written()
+    ensures { VerdictsAreAsWritten }
+{}
+
+/// For each field of a lawful report, and of one that played a script, a report that breaks it.
+pub fn each_report_field_is_needed()
+    ensures { EachReportFieldIsNeeded }
 {}
