@@ -20,5 +20,7 @@ pub mod Table
 pub mod Turns
 pub mod Verdicts
 pub mod Words
+pub mod WordsOfTexts
 pub mod WrongReports
 pub mod WrongSessions
+pub mod WrongTables

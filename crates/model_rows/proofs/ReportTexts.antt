@@ -1,5 +1,5 @@
 -- The run of the realistic session, and its text.
-use Rattle.std.proofs.Common.{refl}
+use Rattle.std.proofs.Common.{◌≡◌, length, refl, ap, arith}
 use Rattle.std.specs.Fmt.{digits}
 use Rattle.host_model.specs.Changes.{changes_of}
 use Rattle.host_model.specs.Verdict.{judged}
@@ -30,4 +30,8 @@ reports_are_as_written = record {
   row_lines = refl;
   entry_lines = refl;
   printed_with_steps = refl;
+  not_with_steps = λ e. let q : 99 ≡ 123 = ap length e in absurd (omega (arith, q));
+  undone_fill = refl;
+  failed_answer = refl;
+  counted_as_failed = refl;
 }

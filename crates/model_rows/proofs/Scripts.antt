@@ -37,4 +37,8 @@ texts_are_scripts = record {
   many_sessions = refl;
   much_moved = refl;
   just_moved = refl;
+  sixteen_sessions = refl;
+  refused_moves_none = refl;
+  longest_moves_all = refl;
+  shown_is_moved = refl;
 }

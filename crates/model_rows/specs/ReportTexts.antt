@@ -1,16 +1,25 @@
 -- The run of the realistic session is lawful, and has this text; and lines that a text has with its steps.
 use Rattle.std.specs.List.{enumerate_from}
-use Rattle.std.specs.Prelude.{◌≡◌, false, [], ◌∷◌, ◌++◌, codes, true, flat_map}
 use Rattle.host_block.specs.declared.op.Op.TheVariants as op
+use Rattle.host_model.specs.declared.event.Event.TheVariants.{Filled}
 use Rattle.host_model.specs.declared.memory.MemEvent.TheVariants as mem
+use Rattle.host_record.specs.Response.{response_bytes}
+use Rattle.host_record.specs.Status.{status_number}
+use Rattle.host_record.specs.declared.response.Response.{Response}
 use Rattle.host_record.specs.declared.status.Status.TheVariants as status
 use Rattle.host_report.specs.Lawful.{IsLawfulRun, closing_flush}
+use Rattle.host_report.specs.LogText.{answer_line, event_line}
 use Rattle.host_report.specs.Played.{IsPlayed}
 use Rattle.host_report.specs.StepText.{entry_line, row_line, step_line}
-use Rattle.host_report.specs.Summary.{summary_text}
+use Rattle.host_report.specs.Summary.{is_good_answer, summary_text}
 use Rattle.host_report.specs.Text.{report_text}
 use Rattle.model_rows.specs.Parts.{accepted, cells, refused, step}
 use Rattle.model_rows.specs.Reports.{entry, in_room, report, empty, image, plan}
+use Rattle.std.specs.Prelude.{◌≡◌, false, [], ◌∷◌, ◌++◌, codes, true, flat_map}
+
+-- the answer to one record, which failed
+abbrev pub failed : Response
+failed = record { status = status_number status.Io; reqid = 7; group = 0; count = 1 }
 
 pub record ReportsAreAsWritten : Type 0 where
   pub lawful : IsLawfulRun image report
@@ -131,3 +140,10 @@ pub record ReportsAreAsWritten : Type 0 where
       codes "  step 0 0 0 flush 0 ok\n" ++
       codes "closing ok\n" ++
       codes "end\n"
+  -- the text without its steps isn't the one with them
+  pub not_with_steps : ¬ (report_text (record report { sessions = in_room (empty ∷ []); steps = in_room (closing_flush false ∷ []) }) false ≡
+      report_text (record report { sessions = in_room (empty ∷ []); steps = in_room (closing_flush false ∷ []) }) true)
+  -- a fill that wasn't done, and an answer that failed
+  pub undone_fill : event_line (Filled 1 0 4 0xa1 false) ≡ codes "  fill 1 0 4 a1 no\n"
+  pub failed_answer : answer_line failed ≡ codes "  answer -40 reqid 7 group 0 count 1\n"
+  pub counted_as_failed : is_good_answer (response_bytes failed) ≡ false

@@ -2,7 +2,7 @@
 use Rattle.std.specs.Prelude.{Some, None, ◌≡◌, [], ◌∷◌, Ok, Err, codes, replicate}
 use Rattle.host_record.specs.declared.finish.Finish.TheVariants.{Drain, Abort}
 use Rattle.script_model.specs.Generate.{next, drawn, generated}
-use Rattle.script_model.specs.Limit.{limit_of}
+use Rattle.script_model.specs.Limit.{limit_of, moved_by, moved_by_request}
 use Rattle.script_model.specs.Script.{script_of}
 use Rattle.script_model.specs.declared.cause.ScriptCause.TheVariants.{BadByte, UnknownWord, NoSession, AfterEnd, WrongCount, BadNumber, BadHex, TooMany}
 use Rattle.script_model.specs.declared.limit.Limit.TheVariants.{Sessions, Moved}
@@ -45,3 +45,9 @@ pub record TextsAreScripts : Type 0 where
   pub much_moved : limit_of 512 (record { part = 1; lines = replicate 65 (Show 1 0 4096); finish = Drain } ∷ []) ≡ Some Moved
   -- 64 of them move just 134,217,728 bytes
   pub just_moved : limit_of 512 (record { part = 1; lines = replicate 64 (Show 1 0 4096); finish = Drain } ∷ []) ≡ None
+  -- sixteen sessions are allowed
+  pub sixteen_sessions : limit_of 512 (replicate 16 (record { part = 1; lines = []; finish = Drain })) ≡ None
+  -- a read of 65,537 blocks is refused and moves none, one of 65,536 moves as many; a show moves what it shows
+  pub refused_moves_none : moved_by_request (record { command = 1; reqid = 0; group = 0; vmoid = 1; length = 65537; vmo_offset = 0; dev_offset = 0 }) ≡ 0
+  pub longest_moves_all : moved_by_request (record { command = 1; reqid = 0; group = 0; vmoid = 1; length = 65536; vmo_offset = 0; dev_offset = 0 }) ≡ 65536
+  pub shown_is_moved : moved_by (Show 1 0 1) ≡ 1

@@ -19,8 +19,10 @@ ghost use Rattle.model_rows.specs.Table.{TableIsRead};
 ghost use Rattle.model_rows.specs.Turns.{TurnsAreAsWritten};
 ghost use Rattle.model_rows.specs.Verdicts.{VerdictsAreAsWritten};
 ghost use Rattle.model_rows.specs.Words.{WordsAreCommands};
+ghost use Rattle.model_rows.specs.WordsOfTexts.{BytesArePrinted};
 ghost use Rattle.model_rows.specs.WrongReports.{WrongReportsAreRefused};
 ghost use Rattle.model_rows.specs.WrongSessions.{WrongSessionsAreRefused};
+ghost use Rattle.model_rows.specs.WrongTables.{WrongTablesAreRefused};
 
 /// Check sums, and the table of a small image: four blocks, one entry of 128 bytes, and a primary header alone.
 pub fn a_table_is_read()
@@ -130,4 +132,14 @@ pub fn verdicts_are_as_written()
 /// For each field of a lawful report, and of one that played a script, a report that breaks it.
 pub fn each_report_field_is_needed()
     ensures { EachReportFieldIsNeeded }
+{}
+
+/// Headers and arrays that differ in one thing from right ones; and the backup that is taken.
+pub fn wrong_tables_are_refused()
+    ensures { WrongTablesAreRefused }
+{}
+
+/// Bytes and blocks as a text has them.
+pub fn bytes_are_printed()
+    ensures { BytesArePrinted }
 {}
