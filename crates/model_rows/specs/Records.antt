@@ -7,6 +7,7 @@ use Rattle.host_record.specs.Status.{status_number}
 use Rattle.host_record.specs.declared.opcode.Opcode.TheVariants.{Write}
 use Rattle.host_record.specs.declared.request.Request.{Request}
 use Rattle.host_record.specs.declared.response.Response.{Response}
+use Rattle.host_record.specs.declared.status.Status.{Status}
 use Rattle.host_record.specs.declared.status.Status.TheVariants.{OutOfRange}
 
 -- a write that closes group 5
@@ -37,3 +38,11 @@ pub record RecordsAreAsWritten : Type 0 where
   pub no_opcode : (opcode unknown ≡ None) × (has_unknown_bit unknown ≡ true) × (is_grouped unknown ≡ false)
   pub answer_status : answer.status ≡ negsuc 13
   pub answer_is : (response_bytes answer ≡ answer_bytes 0) × (response_of (answer_bytes 0) ≡ Some answer) × (response_of (answer_bytes 1) ≡ None)
+  -- a count that stands where the group does, two fields exchanged, and the bits of a command
+  pub count_over_the_group : ¬ (response_bytes (record answer { group = 5 }) ≡ response_bytes (record answer { group = 3; count = 0 }))
+  pub exchanged : ¬ (request_of write_bytes ≡ record write { reqid = 5; group = 7 })
+  pub member : is_last (record write { command = 0x802 }) ≡ false
+  pub closes_alone : is_grouped (record write { command = 0x402 }) ≡ true
+  pub free_bytes : response_of (answer_bytes 255) ≡ None
+  -- no other number is one of a status
+  pub no_status : (status : Status) → ¬ (status_number status ≡ negsuc 0)
