@@ -5,8 +5,7 @@ use Rattle.host_model.specs.declared.memory.MemEvent.TheVariants as mem
 use Rattle.host_record.specs.Response.{all_zero, is_padded}
 use Rattle.host_rings.specs.declared.slip.Slip.{Slip}
 use Rattle.host_session.specs.Acts.{Act, IsAct, is_answer}
-use Rattle.model_rows.specs.Clients.{attaching, acts, fronts, buffers, looking, filling, receiving, answer, other, sending, ClientsAreAsWritten}
-use Rattle.model_rows.specs.Intakes.{sent}
+use Rattle.model_rows.specs.Clients.{attaching, acts, buffers, looking, filling, receiving, answer, other, sending, ClientsAreAsWritten}
 
 attaches : IsAct buffers [] attaching
 attaches = record { plain = record { envelope = refl; slip = refl; fronts = record { device = lit≤ tt; memory = lit≤ tt } }; past = lit< tt }

@@ -1,5 +1,5 @@
 -- Each field of a lawful report refuses a report.
-use Rattle.std.proofs.Common.{◌≡◌, ◌≢◌, ℕ, zero, suc, ◌<◌, ◌≤◌, Bool, true, false, List, [], ◌∷◌, length, get_or, replicate, refl, subst, lit<, lit≤, ap, arith}
+use Rattle.std.proofs.Common.{◌≡◌, ◌≢◌, ℕ, zero, suc, ◌<◌, Bool, true, false, List, [], ◌∷◌, length, get_or, replicate, refl, subst, lit<, lit≤, ap, arith}
 use Rattle.std.specs.Prelude.{Contains, slice_index_or}
 use Rattle.host_block.specs.declared.range.Range.{Range}
 use Rattle.host_gpt.proofs.LawLemmas.{one_table}

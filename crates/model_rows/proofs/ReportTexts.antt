@@ -7,7 +7,6 @@ use Rattle.host_record.specs.Command.{opcode}
 use Rattle.host_record.specs.Response.{response_fields}
 use Rattle.model_rows.proofs.LawfulSessions.{realistic_is_lawful}
 use Rattle.model_rows.proofs.Legal.{legal-from}
-use Rattle.model_rows.specs.Parts.{part}
 use Rattle.model_rows.specs.ReportTexts.{ReportsAreAsWritten}
 use Rattle.model_rows.specs.Reports.{report, image}
 

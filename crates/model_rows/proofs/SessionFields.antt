@@ -1,7 +1,6 @@
 -- Each field of a lawful session refuses a session.
-use Rattle.std.proofs.Common.{◌≡◌, ℕ, ◌≤◌, true, false, List, [], ◌∷◌, Option, Some, None, length, get_or, take, refl, lit≤, lit<, ap, arith}
+use Rattle.std.proofs.Common.{◌≡◌, ℕ, ◌≤◌, true, false, List, [], length, get_or, refl, lit≤, lit<, ap, arith}
 use Rattle.host_model.specs.Verdict.{judged}
-use Rattle.host_model.specs.declared.event.Event.{Event}
 use Rattle.host_record.specs.Command.{opcode}
 use Rattle.model_rows.specs.SessionFields.{AnswersAreNeeded, BuffersAreNeeded, CarryingIsNeeded, EachSessionFieldIsNeeded, OrderIsNeeded, TakingIsNeeded}
 

@@ -1,5 +1,5 @@
 -- Wrong headers and arrays, and a backup.
-use Rattle.std.proofs.Common.{◌≡◌, ℕ, ◌*◌, ◌+◌, ◌^◌, ◌/◌, ◌<◌, ◌≤◌, inl, inr, List, [], ◌∷◌, get_or, refl, lit<, lit≤, ap, arith}
+use Rattle.std.proofs.Common.{◌≡◌, ℕ, ◌*◌, ◌^◌, ◌<◌, ◌≤◌, inl, inr, List, get_or, refl, lit<, lit≤, ap, arith}
 use Rattle.host_gpt.specs.Header.{Agrees, number_at}
 use Rattle.host_gpt.specs.Entries.{used}
 use Rattle.host_gpt.specs.Table.{IsValid}

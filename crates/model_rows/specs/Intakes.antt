@@ -1,5 +1,5 @@
 -- The history of an intake: a read that pins its buffer, a close of a buffer that isn't there, and a close that waits for the read.
-use Rattle.std.specs.Prelude.{◌≡◌, ℕ, true, false, List, [], ◌∷◌, ◌++◌, length, replicate, Some, None}
+use Rattle.std.specs.Prelude.{◌≡◌, ℕ, true, false, List, [], ◌∷◌, ◌++◌, replicate, Some, None}
 use Rattle.host_block.specs.declared.range.Range.{Range}
 use Rattle.host_group.specs.Seats.{member}
 use Rattle.host_intake.specs.Admissions.{entry_for}

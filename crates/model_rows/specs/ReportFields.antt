@@ -1,6 +1,5 @@
 -- For each field of a lawful report, and of one that played a script, a report that breaks that field.
 use Rattle.std.specs.Prelude.{ℕ, true, false, List, [], ◌∷◌, ◌++◌, set}
-use Rattle.host_block.specs.declared.op.Op.TheVariants as op
 use Rattle.host_block.specs.declared.range.Range.{Range}
 use Rattle.host_gpt.specs.declared.which.Which.TheVariants.{Backup}
 use Rattle.host_model.specs.declared.event.Event.TheVariants.{Filled}
