@@ -1,3 +1,4 @@
+pub mod CountLemmas
 pub mod CopyLemmas
 mod Examples
 pub mod FailLemmas
