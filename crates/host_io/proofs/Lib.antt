@@ -1,3 +1,4 @@
+pub mod CountLemmas
 pub mod CopyLemmas
 pub mod FailLemmas
 pub mod FlatLemmas

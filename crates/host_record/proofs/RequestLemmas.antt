@@ -1,6 +1,6 @@
 -- The codec of a request, both ways round.
-use Rattle.std.proofs.Common.{◌≡◌, ℕ, ◌^◌, ◌<◌, List, ◌++◌, [], length, drop, slice_index, refl, sym, ap, ◌∙◌, arith}
-use Rattle.std.proofs.lemmas.List.{append-nil, drop_all}
+use Rattle.std.proofs.Common.{◌≡◌, ℕ, ◌+◌, ◌^◌, ◌<◌, List, ◌++◌, [], length, drop, take, slice_index, refl, sym, ap, ◌∙◌, arith}
+use Rattle.std.proofs.lemmas.List.{append-nil, drop_all, length-drop, take_all}
 use Rattle.byteorder.specs.Endian.{little_bytes}
 use Rattle.byteorder.specs.Numbers.{little_number-reads_back}
 use Rattle.host_record.specs.declared.request.Request.{Request}
@@ -23,8 +23,12 @@ bytes_of_request b len fits =
     let at4 = ap (λ (bs : List ℕ). little_bytes 4 r.reqid ++ bs) at8 ∙ little_bytes-at 4 4 8 b fits refl (omega arith) in
     ap (λ (bs : List ℕ). little_bytes 4 r.command ++ bs) at4 ∙ little_bytes-at 0 4 4 b fits refl (omega arith)
 
+-- all that stands behind the first i bytes, as a range up to the end
+pub up_to_end : (i n : ℕ) (b : List ℕ) → length b ≡ i + n → take n (drop i b) ≡ drop i b
+up_to_end i n b len = take_all n (drop i b) (omega (arith, length-drop i b))
+
 -- two requests with the same fields
-same_request : (a b : Request) → a.command ≡ b.command → a.reqid ≡ b.reqid → a.group ≡ b.group → a.vmoid ≡ b.vmoid → a.length ≡ b.length
+pub same_request : (a b : Request) → a.command ≡ b.command → a.reqid ≡ b.reqid → a.group ≡ b.group → a.vmoid ≡ b.vmoid → a.length ≡ b.length
     → a.vmo_offset ≡ b.vmo_offset → a.dev_offset ≡ b.dev_offset → a ≡ b
 same_request a b e0 e1 e2 e3 e4 e5 e6 = grind arith
 
