@@ -1,8 +1,8 @@
 ghost use Rattle.std.specs.Prelude.{◌≡◌, length};
 
 use super::reader::{Answer, answer_of};
-use host_gpt::{TableError, Which, crc32};
 use byteorder::{ByteOrder, LittleEndian};
+use host_gpt::{TableError, Which, crc32};
 use std::alloc::{AllocError, Global};
 use std::test::Fail;
 
