@@ -13,8 +13,10 @@ use std::alloc::{AllocError, Global};
 /// The most bytes of a text.
 const ROOM: u32 = 100_000_000;
 
-/// The most steps of a report that the plain judges judge.
+/// The most steps of a report that the plain judges judge, and the most records of a session.
 const JUDGED_STEPS: u64 = 1_200;
+
+const JUDGED_RECORDS: u64 = 200;
 
 pub fn judge(alloc: Global, setup: &Setup, call: &Call<'_>, left: &Left) -> Result<(), Wrong> {
     let Some(report) = &left.outcome.report else {
@@ -28,7 +30,7 @@ pub fn judge(alloc: Global, setup: &Setup, call: &Call<'_>, left: &Left) -> Resu
         are_faults_told(report, left),
         "the disk's faults are not those of the steps",
     )?;
-    if report.steps.len() > JUDGED_STEPS {
+    if !is_judged(report) {
         return Ok(());
     }
     ensure(
@@ -59,6 +61,15 @@ fn are_faults_told(report: &Report, left: &Left) -> bool {
     let has_faulted = report.steps.as_slice().iter().any(|step| step.faulted);
     let has_failed = left.disk().counts().faults > 0;
     has_faulted == has_failed
+}
+
+// Whether the plain judges come to an end soon.
+fn is_judged(report: &Report) -> bool {
+    let sessions = report.sessions.as_slice();
+    let is_short = sessions
+        .iter()
+        .all(|session| session.taken.len() <= JUDGED_RECORDS);
+    is_short && report.steps.len() <= JUDGED_STEPS
 }
 
 fn is_played(alloc: Global, setup: &Setup, report: &Report) -> Result<bool, AllocError> {
