@@ -12,10 +12,13 @@ left_over = record { blocks = refl; each = each }
     each (suc zero) within = inr (0, omega arith, refl)
     each (suc (suc b)) within = absurd (omega arith)
 
-left_inside : IsCrashInside (fresh image) (added (fresh image) 1 (3 ∷ 3 ∷ [])) ((1 ∷ 1 ∷ []) ∷ (3 ∷ 3 ∷ []) ∷ [])
+left_inside : IsCrashInside (fresh image) (added (fresh image) 1 (3 ∷ 3 ∷ [])) ((1 ∷ 1 ∷ [])
+    ∷ (3 ∷ 3 ∷ []) ∷ [])
 left_inside = inr (record { blocks = refl; each = each })
   where
-    each : (b : ℕ) → b < 2 → IsCandidate (added (fresh image) 1 (3 ∷ 3 ∷ [])) b (block_at ((1 ∷ 1 ∷ []) ∷ (3 ∷ 3 ∷ []) ∷ []) b)
+    each : (b : ℕ) → b < 2
+        → IsCandidate (added (fresh image) 1 (3 ∷ 3 ∷ [])) b (block_at ((1 ∷ 1 ∷ []) ∷ (3 ∷ 3 ∷ [])
+        ∷ []) b)
     each zero within = inl refl
     each (suc zero) within = inr (0, omega arith, refl)
     each (suc (suc b)) within = absurd (omega arith)
@@ -23,9 +26,20 @@ left_inside = inr (record { blocks = refl; each = each })
 left_after : IsCrashImage image history ((7 ∷ 7 ∷ []) ∷ (2 ∷ 2 ∷ []) ∷ [])
 left_after = record { blocks = refl; each = each }
   where
-    each : (b : ℕ) → b < 2 → IsVersion image history b (block_at ((7 ∷ 7 ∷ []) ∷ (2 ∷ 2 ∷ []) ∷ []) b)
-    each zero within = record { place = 2; after_barrier = omega arith; within = omega arith; is = refl }
-    each (suc zero) within = record { place = 3; after_barrier = omega arith; within = omega arith; is = refl }
+    each : (b : ℕ) → b < 2
+        → IsVersion image history b (block_at ((7 ∷ 7 ∷ []) ∷ (2 ∷ 2 ∷ []) ∷ []) b)
+    each zero within = record {
+      place = 2;
+      after_barrier = omega arith;
+      within = omega arith;
+      is = refl;
+    }
+    each (suc zero) within = record {
+      place = 3;
+      after_barrier = omega arith;
+      within = omega arith;
+      is = refl;
+    }
     each (suc (suc b)) within = absurd (omega arith)
 
 pub disks_are_as_written : DisksAreAsWritten

@@ -4,7 +4,13 @@ use Rattle.host_group.specs.Ends.{IsEnd}
 use Rattle.model_rows.specs.Groups.{first_row, end, second_row, third_row, GroupsAreAsWritten}
 
 is_end : IsEnd (first_row ∷ second_row ∷ third_row ∷ []) end
-is_end = record { status = refl; count = refl; closed_by = refl; device_front = refl; memory_front = refl }
+is_end = record {
+  status = refl;
+  count = refl;
+  closed_by = refl;
+  device_front = refl;
+  memory_front = refl;
+}
 
 pub groups_are_as_written : GroupsAreAsWritten
 groups_are_as_written = record {

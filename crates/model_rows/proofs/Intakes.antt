@@ -10,13 +10,32 @@ use Rattle.model_rows.specs.Intakes.{IntakesAreAsWritten}
 pub intakes_are_as_written : IntakesAreAsWritten
 unfolding opcode judged
 intakes_are_as_written = record {
-  read_is_judged = record { front = lit≤ tt; seen = lit≤ tt; verdict = refl; waits = refl; left = refl };
-  stray_is_judged = record { front = lit≤ tt; seen = lit≤ tt; verdict = refl; waits = refl; left = refl };
-  close_is_judged = record { front = lit≤ tt; seen = lit≤ tt; verdict = refl; waits = refl; left = refl };
+  read_is_judged = record {
+    front = lit≤ tt;
+    seen = lit≤ tt;
+    verdict = refl;
+    waits = refl;
+    left = refl;
+  };
+  stray_is_judged = record {
+    front = lit≤ tt;
+    seen = lit≤ tt;
+    verdict = refl;
+    waits = refl;
+    left = refl;
+  };
+  close_is_judged = record {
+    front = lit≤ tt;
+    seen = lit≤ tt;
+    verdict = refl;
+    waits = refl;
+    left = refl;
+  };
   before_its_front = λ h. absurd (let f = h.front in omega arith);
   of_no_buffer = λ h. absurd (cc h.verdict);
   too_hasty = λ h. absurd (cc h.waits);
-  pinned_elsewhere = λ h. absurd (let n : ◌≡◌ {A = ℕ} 0 1 = ap (λ (xs : List MemEntry). length (pins_left (events xs))) h.left in omega arith);
+  pinned_elsewhere = λ h. absurd (let n : ◌≡◌ {A = ℕ} 0 1 =
+      ap (λ (xs : List MemEntry). length (pins_left (events xs))) h.left in omega arith);
   answer_bytes = refl;
   taken_in_order = refl;
   in_flight = (refl, refl, refl, refl, refl);

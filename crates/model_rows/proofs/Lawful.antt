@@ -22,7 +22,8 @@ module _ (s : Session) where
       IsTakenInOrder s
       × AllByRecursion (IsCarriedOut s) (below (length s.rows))
       × IsTrue (list_all (λ step. nat_lt step.index (length s.rows)) s.steps)
-      × IsTrue (list_all (λ n. is_answered_at_most (take n s.log) s.rows) (below (length s.log + 1)))
+      × IsTrue (list_all (λ n.
+      is_answered_at_most (take n s.log) s.rows) (below (length s.log + 1)))
       × (IsTrue (is_drain s.finish) → IsTrue (is_answered_exactly s.log s.rows))
       × IsToldByLog s
       × HasPages s
@@ -32,16 +33,21 @@ module _ (s : Session) where
       × IsTrue (all_with_before comes_before_release s.memory)
       × IsTrue (all_with_before pins_before_close s.memory)
       × IsTrue (all_with_before (is_used_rightly s) s.log)
-      × IsTrue (list_all (λ r. list_all (follows_record s r) (below (length (sent s.log)))) (below (length (sent s.log))))
+      × IsTrue (list_all (λ r.
+      list_all (follows_record s r) (below (length (sent s.log))))
+      (below (length (sent s.log))))
       × IsTrue (list_all (follows_client s) (below (length (sent s.log))))
-      × IsTrue (list_all (λ r. list_all (precedes_event s r) (below (length s.log))) (below (length (sent s.log))))
+      × IsTrue (list_all (λ r.
+      list_all (precedes_event s r) (below (length s.log))) (below (length (sent s.log))))
 
   pub lawful_from : Tested → IsLawfulSession s
   lawful_from t = record {
     taken = t.0;
     carried = record { each = each_below (IsCarriedOut s) (length s.rows) t.1; others = t.2 };
     answered = record {
-      at_most = λ n h. tested_below (λ n. is_answered_at_most (take n s.log) s.rows) (length s.log + 1) t.3 n (omega (arith, h));
+      at_most = λ n h.
+          tested_below (λ n.
+          is_answered_at_most (take n s.log) s.rows) (length s.log + 1) t.3 n (omega (arith, h));
       exactly = t.4;
     };
     buffers = record {
@@ -55,8 +61,12 @@ module _ (s : Session) where
       used = t.12;
     };
     ordered = record {
-      records = λ r i p q. tested_below (follows_record s r) (length (sent s.log)) (tested_below (λ r. list_all (follows_record s r) (below (length (sent s.log)))) (length (sent s.log)) t.13 r p) i q;
+      records = λ r i p q.
+          tested_below (follows_record s r) (length (sent s.log)) (tested_below (λ r.
+          list_all (follows_record s r) (below (length (sent s.log)))) (length (sent s.log)) t.13 r
+          p) i q;
       client = tested_below (follows_client s) (length (sent s.log)) t.14;
-      events = λ r n p q. tested_below (precedes_event s r) (length s.log) (tested_below (λ r. list_all (precedes_event s r) (below (length s.log))) (length (sent s.log)) t.15 r p) n q;
+      events = λ r n p q. tested_below (precedes_event s r) (length s.log) (tested_below (λ r.
+          list_all (precedes_event s r) (below (length s.log))) (length (sent s.log)) t.15 r p) n q;
     };
   }

@@ -1,85 +1,31 @@
 -- Sessions that are lawful, each shown by computing.
-use Rattle.std.proofs.Common.{◌≡◌, [], ◌∷◌, replicate, refl, lit≤}
-use Rattle.host_model.specs.Answers.{due}
+use Rattle.std.proofs.Common.{refl, lit≤}
 use Rattle.host_model.specs.LawfulSession.{IsLawfulSession}
 use Rattle.host_model.specs.Verdict.{judged}
 use Rattle.host_record.specs.Command.{opcode}
 use Rattle.model_rows.proofs.Lawful.{lawful_from}
+use Rattle.model_rows.proofs.LawfulGroups.{failed_group_answer, failed_group_is_lawful, group_again_is_lawful, open_group_is_lawful, twins_is_lawful}
 use Rattle.model_rows.specs.LawfulSessions.{SessionsAreLawful}
-use Rattle.model_rows.specs.Sessions.{read_and_close, failed_group, faults, twins, realistic, open_group, short, closed_buffer, untaken_close, group_again, aborted, late_attach}
-
-pub failed_group_is_lawful : IsLawfulSession failed_group
-unfolding opcode judged
-failed_group_is_lawful = lawful_from failed_group (
-  record { numbered = refl; only_sent = lit≤ tt; verdicts = refl; ends = refl; all_taken = λ _. refl; ids = refl },
-  (record { steps = refl; outcome = refl }, (record { steps = refl; outcome = refl }, (record { steps = refl; outcome = refl }, tt))),
-  refl,
-  refl,
-  λ _. refl,
-  record { entries = refl; ids = refl },
-  record { shows = refl; lifts = refl },
-  (refl, (refl, (refl, tt))),
-  refl,
-  refl,
-  refl,
-  refl,
-  refl,
-  refl,
-  refl,
-  refl,
-)
-
-pub failed_group_answer : due failed_group.log failed_group.rows ≡ (0xf2 ∷ 0xff ∷ 0xff ∷ 0xff ∷ 3 ∷ 0 ∷ 0 ∷ 0 ∷ 3 ∷ 0 ∷ 0 ∷ 0 ∷ 3 ∷ 0 ∷ 0 ∷ 0 ∷ replicate 16 0) ∷ []
-unfolding opcode judged
-failed_group_answer = refl
-
-pub group_again_is_lawful : IsLawfulSession group_again
-unfolding opcode judged
-group_again_is_lawful = lawful_from group_again (
-  record { numbered = refl; only_sent = lit≤ tt; verdicts = refl; ends = refl; all_taken = λ _. refl; ids = refl },
-  (record { steps = refl; outcome = refl }, (record { steps = refl; outcome = refl }, tt)),
-  refl,
-  refl,
-  λ _. refl,
-  record { entries = refl; ids = refl },
-  record { shows = refl; lifts = refl },
-  (refl, (refl, tt)),
-  refl,
-  refl,
-  refl,
-  refl,
-  refl,
-  refl,
-  refl,
-  refl,
-)
-
-pub open_group_is_lawful : IsLawfulSession open_group
-unfolding opcode judged
-open_group_is_lawful = lawful_from open_group (
-  record { numbered = refl; only_sent = lit≤ tt; verdicts = refl; ends = refl; all_taken = λ _. refl; ids = refl },
-  (record { steps = refl; outcome = refl }, tt),
-  refl,
-  refl,
-  λ _. refl,
-  record { entries = refl; ids = refl },
-  record { shows = refl; lifts = refl },
-  (refl, tt),
-  refl,
-  refl,
-  refl,
-  refl,
-  refl,
-  refl,
-  refl,
-  refl,
-)
+use Rattle.model_rows.specs.Sessions.{read_and_close, faults, realistic, short, closed_buffer, untaken_close, aborted, late_attach}
 
 pub closed_buffer_is_lawful : IsLawfulSession closed_buffer
 unfolding opcode judged
 closed_buffer_is_lawful = lawful_from closed_buffer (
-  record { numbered = refl; only_sent = lit≤ tt; verdicts = refl; ends = refl; all_taken = λ _. refl; ids = refl },
-  (record { steps = refl; outcome = refl }, (record { steps = refl; outcome = refl }, (record { steps = refl; outcome = refl }, tt))),
+  record {
+    numbered = refl;
+    only_sent = lit≤ tt;
+    verdicts = refl;
+    ends = refl;
+    all_taken = λ _. refl;
+    ids = refl;
+  },
+  (
+    record { steps = refl; outcome = refl },
+    (
+      record { steps = refl; outcome = refl },
+      (record { steps = refl; outcome = refl }, tt),
+    ),
+  ),
   refl,
   refl,
   λ _. refl,
@@ -99,7 +45,14 @@ closed_buffer_is_lawful = lawful_from closed_buffer (
 pub read_and_close_is_lawful : IsLawfulSession read_and_close
 unfolding opcode judged
 read_and_close_is_lawful = lawful_from read_and_close (
-  record { numbered = refl; only_sent = lit≤ tt; verdicts = refl; ends = refl; all_taken = λ _. refl; ids = refl },
+  record {
+    numbered = refl;
+    only_sent = lit≤ tt;
+    verdicts = refl;
+    ends = refl;
+    all_taken = λ _. refl;
+    ids = refl;
+  },
   (record { steps = refl; outcome = refl }, (record { steps = refl; outcome = refl }, tt)),
   refl,
   refl,
@@ -120,7 +73,14 @@ read_and_close_is_lawful = lawful_from read_and_close (
 pub late_attach_is_lawful : IsLawfulSession late_attach
 unfolding opcode judged
 late_attach_is_lawful = lawful_from late_attach (
-  record { numbered = refl; only_sent = lit≤ tt; verdicts = refl; ends = refl; all_taken = λ _. refl; ids = refl },
+  record {
+    numbered = refl;
+    only_sent = lit≤ tt;
+    verdicts = refl;
+    ends = refl;
+    all_taken = λ _. refl;
+    ids = refl;
+  },
   (record { steps = refl; outcome = refl }, (record { steps = refl; outcome = refl }, tt)),
   refl,
   refl,
@@ -141,8 +101,21 @@ late_attach_is_lawful = lawful_from late_attach (
 pub faults_is_lawful : IsLawfulSession faults
 unfolding opcode judged
 faults_is_lawful = lawful_from faults (
-  record { numbered = refl; only_sent = lit≤ tt; verdicts = refl; ends = refl; all_taken = λ _. refl; ids = refl },
-  (record { steps = refl; outcome = refl }, (record { steps = refl; outcome = refl }, (record { steps = refl; outcome = refl }, tt))),
+  record {
+    numbered = refl;
+    only_sent = lit≤ tt;
+    verdicts = refl;
+    ends = refl;
+    all_taken = λ _. refl;
+    ids = refl;
+  },
+  (
+    record { steps = refl; outcome = refl },
+    (
+      record { steps = refl; outcome = refl },
+      (record { steps = refl; outcome = refl }, tt),
+    ),
+  ),
   refl,
   refl,
   λ _. refl,
@@ -162,7 +135,14 @@ faults_is_lawful = lawful_from faults (
 pub short_is_lawful : IsLawfulSession short
 unfolding opcode judged
 short_is_lawful = lawful_from short (
-  record { numbered = refl; only_sent = lit≤ tt; verdicts = refl; ends = refl; all_taken = λ _. refl; ids = refl },
+  record {
+    numbered = refl;
+    only_sent = lit≤ tt;
+    verdicts = refl;
+    ends = refl;
+    all_taken = λ _. refl;
+    ids = refl;
+  },
   (record { steps = refl; outcome = refl }, tt),
   refl,
   refl,
@@ -180,31 +160,17 @@ short_is_lawful = lawful_from short (
   refl,
 )
 
-pub twins_is_lawful : IsLawfulSession twins
-unfolding opcode judged
-twins_is_lawful = lawful_from twins (
-  record { numbered = refl; only_sent = lit≤ tt; verdicts = refl; ends = refl; all_taken = λ _. refl; ids = refl },
-  (record { steps = refl; outcome = refl }, (record { steps = refl; outcome = refl }, (record { steps = refl; outcome = refl }, tt))),
-  refl,
-  refl,
-  λ _. refl,
-  record { entries = refl; ids = refl },
-  record { shows = refl; lifts = refl },
-  (refl, (refl, (refl, tt))),
-  refl,
-  refl,
-  refl,
-  refl,
-  refl,
-  refl,
-  refl,
-  refl,
-)
-
 pub aborted_is_lawful : IsLawfulSession aborted
 unfolding opcode judged
 aborted_is_lawful = lawful_from aborted (
-  record { numbered = refl; only_sent = lit≤ tt; verdicts = refl; ends = refl; all_taken = λ h. absurd (cc h); ids = refl },
+  record {
+    numbered = refl;
+    only_sent = lit≤ tt;
+    verdicts = refl;
+    ends = refl;
+    all_taken = λ h. absurd (cc h);
+    ids = refl;
+  },
   (record { steps = refl; outcome = refl }, (record { steps = refl; outcome = refl }, tt)),
   refl,
   refl,
@@ -225,7 +191,14 @@ aborted_is_lawful = lawful_from aborted (
 pub untaken_close_is_lawful : IsLawfulSession untaken_close
 unfolding opcode judged
 untaken_close_is_lawful = lawful_from untaken_close (
-  record { numbered = refl; only_sent = lit≤ tt; verdicts = refl; ends = refl; all_taken = λ h. absurd (cc h); ids = refl },
+  record {
+    numbered = refl;
+    only_sent = lit≤ tt;
+    verdicts = refl;
+    ends = refl;
+    all_taken = λ h. absurd (cc h);
+    ids = refl;
+  },
   (record { steps = refl; outcome = refl }, tt),
   refl,
   refl,
@@ -246,7 +219,14 @@ untaken_close_is_lawful = lawful_from untaken_close (
 pub realistic_is_lawful : IsLawfulSession realistic
 unfolding opcode judged
 realistic_is_lawful = lawful_from realistic (
-  record { numbered = refl; only_sent = lit≤ tt; verdicts = refl; ends = refl; all_taken = λ _. refl; ids = refl },
+  record {
+    numbered = refl;
+    only_sent = lit≤ tt;
+    verdicts = refl;
+    ends = refl;
+    all_taken = λ _. refl;
+    ids = refl;
+  },
   (
     record { steps = refl; outcome = refl },
     (

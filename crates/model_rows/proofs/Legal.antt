@@ -11,12 +11,22 @@ use Rattle.host_model.proofs.ListTests.{implied, tested_below}
 
 -- whether the entry at this place is no good read, or has the content of its block
 abbrev pub reads_content : List (List ℕ) → List Change → ℕ → Bool
-reads_content image history p = option_map_or (λ c. implies (is_read c.op && not c.faulted) (bytes_eq c.bytes (content image history p c.block))) (slice_get history p) true
+reads_content image history p =
+    option_map_or (λ c.
+    implies (is_read c.op && not c.faulted) (bytes_eq c.bytes (content image history p c.block)))
+    (slice_get history p) true
 
-pub legal-from : (image : List (List ℕ)) (history : List Change) → list_all (reads_content image history) (below (length history)) ≡ true → IsLegal image history
+pub legal-from : (image : List (List ℕ)) (history : List Change)
+    → list_all (reads_content image history) (below (length history)) ≡ true → IsLegal image history
 legal-from image history e p c at good =
     let within : p < length history = slice_get_within history p c at in
-    let here : IsTrue (reads_content image history p) = tested_below (reads_content image history) (length history) e p within in
-    let test : Option Change → Bool = λ found. option_map_or (λ c. implies (is_read c.op && not c.faulted) (bytes_eq c.bytes (content image history p c.block))) found true in
-    let same : IsTrue (bytes_eq c.bytes (content image history p c.block)) = implied (is_read c.op && not c.faulted) _ (subst (λ found. IsTrue (test found)) at here) good in
+    let here : IsTrue (reads_content image history p) =
+    tested_below (reads_content image history) (length history) e p within in
+    let test : Option Change → Bool =
+    λ found. option_map_or (λ c.
+    implies (is_read c.op && not c.faulted)
+    (bytes_eq c.bytes (content image history p c.block))) found true in
+    let same : IsTrue (bytes_eq c.bytes (content image history p c.block)) =
+    implied (is_read c.op && not c.faulted) _ (subst (λ found.
+    IsTrue (test found)) at here) good in
     (bytes_eq-Decides c.bytes (content image history p c.block)).0 same

@@ -5,6 +5,7 @@ pub mod Frames
 pub mod Groups
 pub mod Intakes
 pub mod Lawful
+pub mod LawfulGroups
 pub mod LawfulSessions
 pub mod Legal
 pub mod MemoryDisks

@@ -12,7 +12,9 @@ use Rattle.script_model.specs.Owed.{owed}
 use Rattle.script_model.specs.Script.{after_line}
 
 pub realistic_script_is_played : RealisticScriptIsPlayed
-unfolding after_line meaning added may_stand may_wait keyword_of statement session_line attach_line fill_line show_line transfer_line flush_line wait_line end_line group_bits group_number has_count number decimal_value hex_bytes decode_pairs owed
+unfolding after_line meaning added may_stand may_wait keyword_of statement session_line attach_line
+    fill_line show_line transfer_line flush_line wait_line end_line group_bits group_number
+    has_count number decimal_value hex_bytes decode_pairs owed
 realistic_script_is_played = record {
   read = refl;
   asked = refl;

@@ -33,7 +33,8 @@ records_are_as_written = record {
   no_opcode = (refl, refl, refl);
   answer_status = refl;
   answer_is = (refl, refl, refl);
-  count_over_the_group = λ e. let q : 5 ≡ 3 = ap (λ (xs : List ℕ). get_or xs 8 0) e in absurd (omega (arith, q));
+  count_over_the_group = λ e. let q : 5 ≡ 3 = ap (λ (xs : List ℕ). get_or xs 8 0) e in
+      absurd (omega (arith, q));
   exchanged = λ e. let q : 7 ≡ 5 = ap (λ (r : Request). r.reqid) e in absurd (omega (arith, q));
   member = refl;
   closes_alone = refl;

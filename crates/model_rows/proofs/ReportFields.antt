@@ -27,14 +27,30 @@ first_of xs = get_or xs 0 0
 -- ---- the small table
 
 abbrev entry : Entry
-entry = record { number = 1; type_id = replicate 16 1; id = replicate 16 2; first = 2; last = 2; attributes = 0; name = 97 ∷ replicate 35 0 }
+entry = record {
+  number = 1;
+  type_id = replicate 16 1;
+  id = replicate 16 2;
+  first = 2;
+  last = 2;
+  attributes = 0;
+  name = 97 ∷ replicate 35 0;
+}
 
 abbrev layout : Layout
 layout = record { first_usable = 2; last_usable = 2; blocks = 4; entries = entry ∷ [] }
 
 is_table : IsTable table.image Primary (replicate 16 9) 2 2 (entry ∷ [])
 unfolding number_at units used entries_from
-is_table = record { chosen = (lit≤ tt, is_valid); read = record { disk_id = refl; first_usable = refl; last_usable = refl; used = refl } }
+is_table = record {
+  chosen = (lit≤ tt, is_valid);
+  read = record {
+    disk_id = refl;
+    first_usable = refl;
+    last_usable = refl;
+    used = refl;
+  };
+}
 
 only_entry : (e : Entry) → Contains (entry ∷ []) e → entry ≡ e
 only_entry e found = at found.0 found.1 found.2
@@ -43,7 +59,8 @@ only_entry e found = at found.0 found.1 found.2
     at zero within is = is
     at (suc k) within is = absurd (omega (arith, within))
 
-alone : (k : ℕ) (e : Entry) → k < 1 → (slice_index_or (entry ∷ []) k e).number ≢ 1 → ¬ Shares entry (slice_index_or (entry ∷ []) k e)
+alone : (k : ℕ) (e : Entry) → k < 1 → (slice_index_or (entry ∷ []) k e).number ≢ 1
+    → ¬ Shares entry (slice_index_or (entry ∷ []) k e)
 alone zero e within other = absurd (other refl)
 alone (suc k) e within other = absurd (omega (arith, within))
 
@@ -51,20 +68,30 @@ is_its_block : IsRangeOf layout 1 its_block
 is_its_block = record {
   entry = entry;
   is = record { listed = (0, lit< tt, refl); number = refl };
-  served = record { above = lit≤ tt; order = lit≤ tt; below = lit≤ tt; inside = lit< tt; alone = alone };
+  served = record {
+    above = lit≤ tt;
+    order = lit≤ tt;
+    below = lit≤ tt;
+    inside = lit< tt;
+    alone = alone;
+  };
   starts = refl;
   counts = refl;
 }
 
 -- the entry of a session that stands on the small table
-its_entry : (part : ℕ) (range : Range) (on : IsOnTable table.image (on_partition 4 part range)) → entry ≡ on.ranges.0.entry
+its_entry : (part : ℕ) (range : Range) (on : IsOnTable table.image (on_partition 4 part range))
+    → entry ≡ on.ranges.0.entry
 its_entry part range on =
-    let same = one_table table.image Primary Primary on.disk_id (replicate 16 9) on.first_usable 2 on.last_usable 2 on.entries (entry ∷ []) on.table is_table in
-    only_entry on.ranges.0.entry (subst (λ (entries : List Entry). Contains entries on.ranges.0.entry) same.same_entries on.ranges.0.is.listed)
+    let same = one_table table.image Primary Primary on.disk_id (replicate 16 9) on.first_usable 2
+    on.last_usable 2 on.entries (entry ∷ []) on.table is_table in
+    only_entry on.ranges.0.entry (subst (λ (entries : List Entry).
+    Contains entries on.ranges.0.entry) same.same_entries on.ranges.0.is.listed)
 
 another_part : ¬ IsOnTable table.image (on_partition 4 2 its_block)
 another_part on =
-    let first : 1 ≡ on.ranges.0.entry.number = ap (λ (e : Entry). e.number) (its_entry 2 its_block on) in
+    let first : 1 ≡ on.ranges.0.entry.number =
+    ap (λ (e : Entry). e.number) (its_entry 2 its_block on) in
     let second : on.ranges.0.entry.number ≡ 2 = on.ranges.0.is.number in
     absurd (omega (arith, first, second))
 
@@ -80,10 +107,18 @@ image : ImageIsNeeded
 image = record {
   blocks = λ h. let q : 127 ≡ 128 = h.blocks in absurd (omega (arith, q));
   size = λ h. let q : 512 ≡ 4096 = h.size 0 [] (lit< tt) in absurd (omega (arith, q));
-  served = record { disk_id = replicate 16 9; first_usable = 2; last_usable = 2; entries = entry ∷ []; table = is_table; ranges = (is_its_block, tt) };
+  served = record {
+    disk_id = replicate 16 9;
+    first_usable = 2;
+    last_usable = 2;
+    entries = entry ∷ [];
+    table = is_table;
+    ranges = (is_its_block, tt);
+  };
   part = another_part;
   range = another_range;
-  no_table = λ h. let q : 0 ≡ 69 = ap first_of h.table.chosen.1.agrees.begins in absurd (omega (arith, q));
+  no_table = λ h. let q : 0 ≡ 69 = ap first_of h.table.chosen.1.agrees.begins in
+      absurd (omega (arith, q));
   which = λ h. h.table.chosen.0 (lit≤ tt, is_valid);
 }
 

@@ -13,7 +13,8 @@ numbered zero x at = ap (λ (y : Envelope). y.index) (sym (some-injective first 
 numbered (suc zero) x at = ap (λ (y : Envelope). y.index) (sym (some-injective second x at))
 numbered (suc (suc k)) x at = absurd (some-ne-none x (sym at))
 
-places : EachPlace (λ k pushed. IsPrefix (sent_by k ((1, b) ∷ (0, a) ∷ [])) pushed) ((a ∷ []) ∷ (b ∷ c ∷ []) ∷ [])
+places : EachPlace (λ k pushed. IsPrefix (sent_by k ((1, b) ∷ (0, a) ∷ [])) pushed) ((a ∷ [])
+    ∷ (b ∷ c ∷ []) ∷ [])
 places zero d near = ([], refl)
 places (suc zero) d near = (c ∷ [], refl)
 places (suc (suc k)) d near = absurd (omega arith)

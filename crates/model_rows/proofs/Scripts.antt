@@ -14,7 +14,10 @@ use Rattle.script_model.specs.Owed.{owed}
 use Rattle.script_model.specs.Script.{after_line}
 
 pub texts_are_scripts : TextsAreScripts
-unfolding after_line meaning added may_stand may_wait keyword_of statement session_line attach_line fill_line wait_line end_line has_count number decimal_value hex_bytes decode_pairs owed flush_line group_bits group_number next request_line request_from session_from show_line transfer_line trim_line limit_of has_many_records moved_by_lines moved_by opcode
+unfolding after_line meaning added may_stand may_wait keyword_of statement session_line attach_line
+    fill_line wait_line end_line has_count number decimal_value hex_bytes decode_pairs owed
+    flush_line group_bits group_number next request_line request_from session_from show_line
+    transfer_line trim_line limit_of has_many_records moved_by_lines moved_by opcode
 texts_are_scripts = record {
   empty = refl;
   blanks = refl;

@@ -66,4 +66,10 @@ order = record {
 }
 
 pub each_session_field_is_needed : EachSessionFieldIsNeeded
-each_session_field_is_needed = record { taking = taking; carrying = carrying; answers = answers; buffers = buffers; order = order }
+each_session_field_is_needed = record {
+  taking = taking;
+  carrying = carrying;
+  answers = answers;
+  buffers = buffers;
+  order = order;
+}

@@ -8,9 +8,17 @@ use Rattle.model_rows.specs.Table.{image, header_block, TableIsRead}
 
 agrees : Agrees 1 header_block
 unfolding number_at
-agrees = record { begins = refl; long = omega arith; fits = omega arith; crc = refl; place = refl; entries = (0, refl) }
+agrees = record {
+  begins = refl;
+  long = omega arith;
+  fits = omega arith;
+  crc = refl;
+  place = refl;
+  entries = (0, refl);
+}
 
-array_crc_holds : (header_of header_block).array_crc ≡ crc_of (array_of image (header_of header_block))
+array_crc_holds : (header_of header_block).array_crc
+    ≡ crc_of (array_of image (header_of header_block))
 unfolding number_at
 array_crc_holds = refl
 

@@ -11,7 +11,14 @@ pub turns_are_as_written : TurnsAreAsWritten
 turns_are_as_written = record {
   first_maker = refl;
   nobody = refl;
-  last_turn = ((0, 9) ∷ [], refl, All-cons (λ e. maker e ≡ 0) (0, 9) [] refl (All-nil (λ e. maker e ≡ 0)));
+  last_turn = (
+    (0, 9) ∷ [],
+    refl,
+    All-cons (λ e. maker e ≡ 0) (
+      0,
+      9,
+    ) [] refl (All-nil (λ e. maker e ≡ 0)),
+  );
   not_by_another = λ e. let n : ◌≡◌ {A = ℕ} 1 2 = ap length e in omega arith;
   goes_on = goes_on;
   misses_its_own = λ c. let n : ◌≡◌ {A = ℕ} 2 1 = ap length c.1 in omega arith;

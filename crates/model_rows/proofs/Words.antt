@@ -6,8 +6,25 @@ use Rattle.host_words.specs.Numbers.{block_size, number}
 use Rattle.model_rows.specs.Words.{WordsAreCommands}
 
 pub words_are_commands : WordsAreCommands
-unfolding command_named given_after run_meaning list_meaning make_meaning load_meaning number block_size
+unfolding command_named given_after run_meaning list_meaning make_meaning load_meaning number
+    block_size
 words_are_commands = record {
   named_commands = (refl, refl, refl, refl, refl, refl, refl, refl, refl);
-  refused_words = (refl, refl, refl, refl, refl, refl, refl, refl, refl, refl, refl, refl, refl, refl, refl);
+  refused_words = (
+    refl,
+    refl,
+    refl,
+    refl,
+    refl,
+    refl,
+    refl,
+    refl,
+    refl,
+    refl,
+    refl,
+    refl,
+    refl,
+    refl,
+    refl,
+  );
 }

@@ -18,15 +18,18 @@ wrong_sessions_are_refused = record {
   wrong_reqid = λ h. never (h.answered.at_most 7 (lit≤ tt));
   answer_before_its_request = λ h. never (h.answered.at_most 6 (lit≤ tt));
   last_failure = λ h. never (h.answered.at_most 5 (lit≤ tt));
-  answer_after_abort = λ h. let q : 1 ≡ 2 = ap (λ l. length (received (take 6 l))) h.taken.ends in absurd (omega (arith, q));
+  answer_after_abort = λ h. let q : 1 ≡ 2 = ap (λ l. length (received (take 6 l))) h.taken.ends in
+      absurd (omega (arith, q));
   not_taken = λ h. let q : 2 ≡ 3 = h.taken.all_taken refl in absurd (omega (arith, q));
   accepted_after_close = λ h. absurd (cc h.taken.verdicts);
   step_outside = λ h. never (h.carried.each 0 (lit< tt)).steps;
   step_of_refused = λ h. never (h.carried.each 0 (lit< tt)).steps;
   step_after_fault = λ h. never (h.carried.each 5 (lit< tt)).steps;
   hidden_fault = λ h. absurd (cc (h.carried.each 1 (lit< tt)).outcome);
-  write_without_lift = λ h. let q : 2 ≡ 3 = ap length (h.buffers.records.each 0 (lit< tt)) in absurd (omega (arith, q));
-  spare_lift = λ h. let q : 4 ≡ 3 = ap length (h.buffers.records.each 0 (lit< tt)) in absurd (omega (arith, q));
+  write_without_lift = λ h. let q : 2 ≡ 3 = ap length (h.buffers.records.each 0 (lit< tt)) in
+      absurd (omega (arith, q));
+  spare_lift = λ h. let q : 4 ≡ 3 = ap length (h.buffers.records.each 0 (lit< tt)) in
+      absurd (omega (arith, q));
   release_before_done = λ h. never h.buffers.releases.last;
   never_released = λ h. never h.buffers.releases.once;
   fill_after_release = λ h. never h.buffers.releases.last;

@@ -38,7 +38,14 @@ arrays = record {
 
 agrees : Agrees 3 backup_block
 unfolding number_at
-agrees = record { begins = refl; long = lit≤ tt; fits = lit≤ tt; crc = refl; place = refl; entries = (0, refl) }
+agrees = record {
+  begins = refl;
+  long = lit≤ tt;
+  fits = lit≤ tt;
+  crc = refl;
+  place = refl;
+  entries = (0, refl);
+}
 
 backup_is_valid : IsValid damaged 3
 unfolding number_at
@@ -59,7 +66,13 @@ backup = record {
   primary = λ h. in_block_one h.1;
   not_both = λ h. h.0 (lit≤ tt, is_valid);
   in_block_one = in_block_one;
-  not_large = λ h. elim h.1.large [ inl many ↦ omega (arith, many) | inr long ↦ omega (arith, long) ];
+  not_large = λ h. elim h.1.large [
+    | inl many ↦ omega (arith, many)
+    | inr long ↦ omega (
+      arith,
+      long,
+    )
+  ];
 }
 
 pub wrong_tables_are_refused : WrongTablesAreRefused

@@ -25,10 +25,17 @@ pub record CacheIsAsWritten : Type 0 where
   pub content_on_disk : cached held zeros 0 ≡ 0 ∷ []
   pub content_in_list : cached held zeros 1 ≡ 5 ∷ []
   pub content_of_victim : cached held zeros 2 ≡ 8 ∷ []
-  pub moved_to_front : in_front 1 (dirty_line (5 ∷ [])) two ≡ (1, dirty_line (5 ∷ [])) ∷ (3, dirty_line (7 ∷ [])) ∷ []
+  pub moved_to_front : in_front 1 (dirty_line (5 ∷ [])) two ≡ (1, dirty_line (5 ∷ []))
+      ∷ (3, dirty_line (7 ∷ [])) ∷ []
   pub rising : dirty_below two 4 ≡ (1, 5 ∷ []) ∷ (3, 7 ∷ []) ∷ []
-  pub rising_calls : write_calls done (dirty_below two 4) ≡ write 1 (5 ∷ []) done ∷ write 3 (7 ∷ []) done ∷ []
-  pub clean_below_two : cleaned_below 2 two ≡ (3, dirty_line (7 ∷ [])) ∷ (1, clean_line (5 ∷ [])) ∷ []
+  pub rising_calls : write_calls done (dirty_below two 4) ≡ write 1 (5 ∷ []) done
+      ∷ write 3 (7 ∷ []) done ∷ []
+  pub clean_below_two : cleaned_below 2 two ≡ (3, dirty_line (7 ∷ [])) ∷ (1, clean_line (5 ∷ []))
+      ∷ []
   pub victim_call : victim_writes held.victim failed ≡ write 2 (8 ∷ []) failed ∷ []
-  pub evicted : (with_room (record { lines = filled 32; victim = None })).victim ≡ Some (record { block = 0; bytes = 0 ∷ [] })
-  pub not_evicted : with_room (record { lines = filled 31; victim = None }) ≡ record { lines = filled 31; victim = None }
+  pub evicted : (with_room (record { lines = filled 32; victim = None })).victim
+      ≡ Some (record { block = 0; bytes = 0 ∷ [] })
+  pub not_evicted : with_room (record { lines = filled 31; victim = None }) ≡ record {
+    lines = filled 31;
+    victim = None;
+  }

@@ -36,7 +36,10 @@ pub record DisksAreAsWritten : Type 0 where
   pub begins : IsPrefix {A = ℕ} (1 ∷ 2 ∷ []) (1 ∷ 2 ∷ 3 ∷ [])
   pub two_more_fit : spare_of {A = ℕ} (record { items = 7 ∷ 7 ∷ []; room = 4 }) ≡ 2
   pub last_write : read_of disk 1 ≡ 5 ∷ 5 ∷ []
-  pub half_synced : part_synced disk 1 ≡ record { durable = (1 ∷ 1 ∷ []) ∷ (3 ∷ 3 ∷ []) ∷ []; pending = (0, (4 ∷ 4 ∷ [])) ∷ (1, (5 ∷ 5 ∷ [])) ∷ [] }
+  pub half_synced : part_synced disk 1 ≡ record {
+    durable = (1 ∷ 1 ∷ []) ∷ (3 ∷ 3 ∷ []) ∷ [];
+    pending = (0, (4 ∷ 4 ∷ [])) ∷ (1, (5 ∷ 5 ∷ [])) ∷ [];
+  }
   pub all_synced : synced disk ≡ fresh ((4 ∷ 4 ∷ []) ∷ (5 ∷ 5 ∷ []) ∷ [])
   -- a write that fails adds its pair or doesn't, a sync that fails makes some first part durable
   pub write_lost : Leads (write 0 (6 ∷ 6 ∷ []) failed) disk disk
@@ -48,7 +51,8 @@ pub record DisksAreAsWritten : Type 0 where
   -- a crash may keep the first write to block 1 and lose that to block 0
   pub left_over : IsCrashOf disk ((1 ∷ 1 ∷ []) ∷ (3 ∷ 3 ∷ []) ∷ [])
   -- inside a write it may leave what the write was about to put
-  pub left_inside : IsCrashInside (fresh image) (added (fresh image) 1 (3 ∷ 3 ∷ [])) ((1 ∷ 1 ∷ []) ∷ (3 ∷ 3 ∷ []) ∷ [])
+  pub left_inside : IsCrashInside (fresh image) (added (fresh image) 1 (3 ∷ 3 ∷ [])) ((1 ∷ 1 ∷ [])
+      ∷ (3 ∷ 3 ∷ []) ∷ [])
   pub at_start : content image history 0 0 ≡ 1 ∷ 1 ∷ []
   pub written : content image history 6 0 ≡ 7 ∷ 7 ∷ []
   pub trimmed : content image history 6 1 ≡ 0 ∷ 0 ∷ []

@@ -32,7 +32,8 @@ pub record FramesAreAsWritten : Type 0 where
   -- a mask of the bits 0 and 1 wins the frame 1 alone
   pub wins_one : won_in 0 3 5 ≡ 1 ∷ []
   pub twice : count 2 (2 ∷ 3 ∷ 2 ∷ []) ≡ 2
-  pub won_and_taken : (won_by 1 won.claims ≡ 1) × (taken_by 0 won.claims ≡ 1) × (taken_by 2 won.claims ≡ 1) × (asked_by won.claims ≡ 2)
+  pub won_and_taken : (won_by 1 won.claims ≡ 1) × (taken_by 0 won.claims ≡ 1)
+      × (taken_by 2 won.claims ≡ 1) × (asked_by won.claims ≡ 2)
   pub to_fetch : (times_to_fetch 1 won ≡ 1) × (granted_of won ≡ 1) × (named_count won ≡ 1)
   pub held : times_held 1 (fetching_view won) ≡ 1
   pub out : times_out 1 (settled_view (fetching_view won)) ≡ 1

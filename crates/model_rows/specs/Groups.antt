@@ -1,4 +1,5 @@
--- An instance of three members, of which the second and the third fail, and the third settled first.
+-- An instance of three members, of which the second and the third fail, and the third settled
+-- first.
 use Rattle.std.specs.Prelude.{◌≡◌, ◌<◌, List, [], ◌∷◌, true, false, Some}
 use Rattle.host_group.specs.Ends.{IsEnd, members_of, instance_rows, end_of, ends_of, HasOneEnd}
 use Rattle.host_group.specs.Failures.{no_failure, failure_word, status_of}
@@ -36,16 +37,38 @@ first_row = record (fresh_row first) { progress = Passed; device_front = 7; memo
 
 -- it settled last: the word left had one unsettled member, the mark, and three members
 abbrev pub second_row : Row
-second_row = record (fresh_row second) { progress = Ended; status = NotFound; device_front = 9; memory_front = 1; found = 897; end_error = 94; end_device_front = 9; end_memory_front = 4; end_closing = 442381631501 }
+second_row = record (fresh_row second) {
+  progress = Ended;
+  status = NotFound;
+  device_front = 9;
+  memory_front = 1;
+  found = 897;
+  end_error = 94;
+  end_device_front = 9;
+  end_memory_front = 4;
+  end_closing = 442381631501;
+}
 
 abbrev pub third_row : Row
-third_row = record (fresh_row third) { progress = Passed; status = Io; device_front = 3; memory_front = 4 }
+third_row = record (fresh_row third) {
+  progress = Passed;
+  status = Io;
+  device_front = 3;
+  memory_front = 4;
+}
 
 abbrev pub back : List Row
 back = second_row ∷ first_row ∷ third_row ∷ []
 
 abbrev pub end : GroupEnd
-end = record { status = NotFound; count = 3; reqid = 103; index = 13; device_front = 9; memory_front = 4 }
+end = record {
+  status = NotFound;
+  count = 3;
+  reqid = 103;
+  index = 13;
+  device_front = 9;
+  memory_front = 4;
+}
 
 pub record GroupsAreAsWritten : Type 0 where
   -- the index decides first
@@ -53,10 +76,12 @@ pub record GroupsAreAsWritten : Type 0 where
   pub told_status : (status_of (failure_word 5 NotFound) ≡ NotFound) × (status_of no_failure ≡ Ok)
   pub three : members_of 3 0 admitted ≡ first ∷ second ∷ third ∷ []
   pub in_order : instance_rows 3 0 admitted back ≡ first_row ∷ second_row ∷ third_row ∷ []
-  pub counts : (closings 3 admitted ≡ 1) × (member_count 3 0 admitted ≡ 3) × ((rows_tally 3 0 back).rows ≡ 3)
+  pub counts : (closings 3 admitted ≡ 1) × (member_count 3 0 admitted ≡ 3)
+      × ((rows_tally 3 0 back).rows ≡ 3)
   pub rises : IsRising (first ∷ second ∷ third ∷ []) 0 14
   -- what the words come to
-  pub words : ((rows_tally 3 0 back).error ≡ 94) × ((rows_tally 3 0 back).device_front ≡ 9) × ((rows_tally 3 0 back).memory_front ≡ 4)
+  pub words : ((rows_tally 3 0 back).error ≡ 94) × ((rows_tally 3 0 back).device_front ≡ 9)
+      × ((rows_tally 3 0 back).memory_front ≡ 4)
   pub told : end_of second_row ≡ Some end
   pub is_end : IsEnd (first_row ∷ second_row ∷ third_row ∷ []) end
   pub one_end : HasOneEnd (instance_rows 3 0 admitted back)

@@ -1,4 +1,5 @@
--- The history of an intake: a read that pins its buffer, a close of a buffer that isn't there, and a close that waits for the read.
+-- The history of an intake: a read that pins its buffer, a close of a buffer that isn't there, and
+-- a close that waits for the read.
 use Rattle.std.specs.Prelude.{◌≡◌, ℕ, true, false, List, [], ◌∷◌, ◌++◌, replicate, Some, None}
 use Rattle.host_block.specs.declared.range.Range.{Range}
 use Rattle.host_group.specs.Seats.{member}
@@ -28,7 +29,15 @@ part = record { first = 34; count = 30 }
 
 -- a request for one block, from the second page of a buffer
 abbrev pub asked : ℕ → ℕ → ℕ → ℕ → Request
-asked command reqid group vmoid = record { command = command; reqid = reqid; group = group; vmoid = vmoid; length = 1; vmo_offset = 1; dev_offset = 0 }
+asked command reqid group vmoid = record {
+  command = command;
+  reqid = reqid;
+  group = group;
+  vmoid = vmoid;
+  length = 1;
+  vmo_offset = 1;
+  dev_offset = 0;
+}
 
 -- it is sent once the client knows one entry of the buffers' history
 abbrev pub sent : ℕ → Request → Envelope
@@ -36,17 +45,36 @@ sent i r = record { bytes = request_bytes r; index = i; device_front = 0; memory
 
 -- ---- what was done to the buffers: the client's number is 1, that of the admissions 2
 abbrev pub buffers : List MemEntry
-buffers = under 1 (mem.Attach 1 2 0 ∷ []) ++ under 2 (mem.Pin 0 1 0 ∷ mem.Close 2 1 ∷ []) ++ under 0 (mem.Done 0 1 ∷ mem.Release 1 ∷ [])
+buffers = under 1 (mem.Attach 1 2 0 ∷ []) ++ under 2 (mem.Pin 0 1 0 ∷ mem.Close 2 1 ∷ [])
+    ++ under 0 (mem.Done 0 1 ∷ mem.Release 1 ∷ [])
 
 -- ---- the records taken
 abbrev pub read : Taking
-read = record { hand = 0; envelope = sent 0 (asked 1 10 0 1); verdict = Accepted; waits = false; seen = 1 }
+read = record {
+  hand = 0;
+  envelope = sent 0 (asked 1 10 0 1);
+  verdict = Accepted;
+  waits = false;
+  seen = 1;
+}
 
 abbrev pub stray : Taking
-stray = record { hand = 0; envelope = sent 1 (asked 5 11 0 9); verdict = Refused status.NotFound; waits = false; seen = 2 }
+stray = record {
+  hand = 0;
+  envelope = sent 1 (asked 5 11 0 9);
+  verdict = Refused status.NotFound;
+  waits = false;
+  seen = 2;
+}
 
 abbrev pub close : Taking
-close = record { hand = 0; envelope = sent 2 (asked 5 12 0 1); verdict = Accepted; waits = true; seen = 2 }
+close = record {
+  hand = 0;
+  envelope = sent 2 (asked 5 12 0 1);
+  verdict = Accepted;
+  waits = true;
+  seen = 2;
+}
 
 -- ---- the intake's history
 abbrev pub ended : Status → RecordEnd
@@ -58,8 +86,10 @@ stray_answer = lone_slip (asked 5 11 0 9) 1 (ended status.NotFound)
 -- the close of no buffer ended, with its answer kept; then the read did
 abbrev pub course : List IntakeEntry
 course =
-    entry_for read ∷ entry_for stray ∷ Landed 0 1 (ended status.NotFound) (Some stray_answer) true ∷ entry_for close
-    ∷ Landed 0 0 (ended status.Ok) (Some (lone_slip (asked 1 10 0 1) 0 (ended status.Ok))) false ∷ []
+    entry_for read ∷ entry_for stray ∷ Landed 0 1 (ended status.NotFound) (Some stray_answer) true
+    ∷ entry_for close
+    ∷ Landed 0 0 (ended status.Ok) (Some (lone_slip (asked 1 10 0 1) 0 (ended status.Ok))) false
+    ∷ []
 
 -- ---- members
 -- a group of two, a lone flush, and the number used again
@@ -78,17 +108,30 @@ pub record IntakesAreAsWritten : Type 0 where
   pub too_hasty : ¬ IsJudged part 2 buffers (record close { waits = false })
   -- its pin stands elsewhere than right after what it was judged on
   pub pinned_elsewhere : ¬ IsJudged part 2 buffers (record read { seen = 2 })
-  pub answer_bytes : stray_answer.bytes ≡ 0xe7 ∷ 0xff ∷ 0xff ∷ 0xff ∷ 11 ∷ 0 ∷ 0 ∷ 0 ∷ 0 ∷ 0 ∷ 0 ∷ 0 ∷ 1 ∷ 0 ∷ 0 ∷ 0 ∷ replicate 16 0
+  pub answer_bytes : stray_answer.bytes ≡ 0xe7 ∷ 0xff ∷ 0xff ∷ 0xff ∷ 11 ∷ 0 ∷ 0 ∷ 0 ∷ 0 ∷ 0 ∷ 0 ∷ 0
+      ∷ 1 ∷ 0 ∷ 0 ∷ 0 ∷ replicate 16 0
   pub taken_in_order : takings course ≡ read ∷ stray ∷ close ∷ []
   -- the waiting close is in flight
-  pub in_flight : (flights_in course ≡ 1) × (is_flying 0 course ≡ false) × (is_flying 1 course ≡ false) × (is_flying 2 course ≡ true) × (is_flying 3 course ≡ false)
-  pub rows : rows_in course ≡ record { verdict = Accepted; outcome = status.Ok } ∷ record { verdict = Refused status.NotFound; outcome = status.NotFound } ∷ record { verdict = Accepted; outcome = status.Ok } ∷ []
+  pub in_flight : (flights_in course ≡ 1) × (is_flying 0 course ≡ false)
+      × (is_flying 1 course ≡ false) × (is_flying 2 course ≡ true) × (is_flying 3 course ≡ false)
+  pub rows : rows_in course ≡ record { verdict = Accepted; outcome = status.Ok }
+      ∷ record { verdict = Refused status.NotFound; outcome = status.NotFound } ∷ record {
+        verdict = Accepted;
+        outcome = status.Ok;
+      } ∷ []
   pub front : memory_front_in course ≡ 2
   -- one answer is kept, until it is handed on or the session is aborted
-  pub kept : (kept_slips course ≡ stray_answer ∷ []) × (kept_slips (course ++ Passed 0 ∷ []) ≡ []) × (kept_slips (course ++ Turned 1 Aborted ∷ []) ≡ [])
+  pub kept : (kept_slips course ≡ stray_answer ∷ []) × (kept_slips (course ++ Passed 0 ∷ []) ≡ [])
+      × (kept_slips (course ++ Turned 1 Aborted ∷ []) ≡ [])
   -- the hand that took a record tells its end; any hand tells that of a close that waited
-  pub landers : (is_lander 0 0 (takings course) ≡ true) × (is_lander 3 0 (takings course) ≡ false) × (is_lander 3 2 (takings course) ≡ true) × (is_lander 0 3 (takings course) ≡ false)
-  pub phases : (phase_in course ≡ Running) × (phase_in (course ++ Turned 1 Draining ∷ []) ≡ Draining) × (phase_in (course ++ Turned 1 Draining ∷ Turned 1 Closed ∷ []) ≡ Closed)
+  pub landers : (is_lander 0 0 (takings course) ≡ true) × (is_lander 3 0 (takings course) ≡ false)
+      × (is_lander 3 2 (takings course) ≡ true) × (is_lander 0 3 (takings course) ≡ false)
+  pub phases : (phase_in course ≡ Running) × (phase_in (course ++ Turned 1 Draining ∷ [])
+      ≡ Draining) × (phase_in (course ++ Turned 1 Draining ∷ Turned 1 Closed ∷ []) ≡ Closed)
   -- a session is told to end before it is closed, and once
-  pub courses : (is_course (Aborted ∷ Closed ∷ []) ≡ true) × (is_course (Closed ∷ []) ≡ false) × (is_course (Draining ∷ Aborted ∷ []) ≡ false) × (is_course (Draining ∷ Closed ∷ Closed ∷ []) ≡ false)
-  pub members_are : (member_at flushes 0 ≡ Some (member 3 0 0 20 false)) × (member_at flushes 1 ≡ Some (member 3 0 1 21 true)) × (member_at flushes 2 ≡ None) × (member_at flushes 3 ≡ Some (member 3 1 3 23 true))
+  pub courses : (is_course (Aborted ∷ Closed ∷ []) ≡ true) × (is_course (Closed ∷ []) ≡ false)
+      × (is_course (Draining ∷ Aborted ∷ []) ≡ false) × (is_course (Draining ∷ Closed ∷ Closed ∷ [])
+      ≡ false)
+  pub members_are : (member_at flushes 0 ≡ Some (member 3 0 0 20 false))
+      × (member_at flushes 1 ≡ Some (member 3 0 1 21 true)) × (member_at flushes 2 ≡ None)
+      × (member_at flushes 3 ≡ Some (member 3 1 3 23 true))

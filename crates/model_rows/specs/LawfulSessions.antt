@@ -6,7 +6,8 @@ use Rattle.model_rows.specs.Sessions.{failed_group, faults, twins, realistic, re
 
 pub record SessionsAreLawful : Type 0 where
   pub failed_group_is_lawful : IsLawfulSession failed_group
-  pub failed_group_answer : due failed_group.log failed_group.rows ≡ (0xf2 ∷ 0xff ∷ 0xff ∷ 0xff ∷ 3 ∷ 0 ∷ 0 ∷ 0 ∷ 3 ∷ 0 ∷ 0 ∷ 0 ∷ 3 ∷ 0 ∷ 0 ∷ 0 ∷ replicate 16 0) ∷ []
+  pub failed_group_answer : due failed_group.log failed_group.rows ≡ (0xf2 ∷ 0xff ∷ 0xff ∷ 0xff ∷ 3
+      ∷ 0 ∷ 0 ∷ 0 ∷ 3 ∷ 0 ∷ 0 ∷ 0 ∷ 3 ∷ 0 ∷ 0 ∷ 0 ∷ replicate 16 0) ∷ []
   pub group_again_is_lawful : IsLawfulSession group_again
   pub open_group_is_lawful : IsLawfulSession open_group
   pub closed_buffer_is_lawful : IsLawfulSession closed_buffer

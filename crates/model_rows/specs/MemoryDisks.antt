@@ -10,9 +10,11 @@ use Rattle.host_io.specs.declared.disk.DiskError.TheVariants.{Oom}
 use Rattle.host_io.specs.declared.fails.CallKind.TheVariants.{Read, Write, Sync}
 use Rattle.host_io.specs.declared.fails.FailAt.{FailAt}
 
--- the second write fails with nothing done, though it is named again, and the first sync with three writes done
+-- the second write fails with nothing done, though it is named again, and the first sync with
+-- three writes done
 abbrev pub fails : List FailAt
-fails = record { kind = Write; nr = 2; part = 0 } ∷ record { kind = Sync; nr = 1; part = 3 } ∷ record { kind = Write; nr = 2; part = 1 } ∷ []
+fails = record { kind = Write; nr = 2; part = 0 } ∷ record { kind = Sync; nr = 1; part = 3 }
+    ∷ record { kind = Write; nr = 2; part = 1 } ∷ []
 
 abbrev pub bytes : List ℕ
 bytes = 1 ∷ 2 ∷ 3 ∷ 4 ∷ 5 ∷ []
@@ -33,7 +35,8 @@ pub record MemoryDisksAreAsWritten : Type 0 where
   pub other_kind : part_listed fails Read 2 ≡ None
   -- the byte behind the last whole block is in none
   pub whole_blocks : image_of 2 bytes ≡ image
-  pub put_in_order : put_all 2 bytes ((1, (8 ∷ 8 ∷ [])) ∷ (1, (9 ∷ 9 ∷ [])) ∷ []) ≡ 1 ∷ 2 ∷ 9 ∷ 9 ∷ 5 ∷ []
+  pub put_in_order : put_all 2 bytes ((1, (8 ∷ 8 ∷ [])) ∷ (1, (9 ∷ 9 ∷ [])) ∷ []) ≡ 1 ∷ 2 ∷ 9 ∷ 9
+      ∷ 5 ∷ []
   pub blocks_joined : joined image ≡ 1 ∷ 2 ∷ 3 ∷ 4 ∷ []
   pub last_write_read : bytes_of (added (fresh image) 0 (7 ∷ 7 ∷ [])) 2 ≡ 7 ∷ 7 ∷ 3 ∷ 4 ∷ []
   pub nothing_done : part_written (fresh image) 0 (7 ∷ 7 ∷ []) 0 ≡ fresh image

@@ -17,11 +17,26 @@ part = record { first = 34; count = 30 }
 
 -- a record sent: command, reqid, group, buffer, length, and the two offsets
 abbrev pub send : ℕ → ℕ → ℕ → ℕ → ℕ → ℕ → ℕ → ℕ → Event
-send i command reqid group vmoid len buf dev = Sent i (request_bytes (record { command = command; reqid = reqid; group = group; vmoid = vmoid; length = len; vmo_offset = buf; dev_offset = dev }))
+send i command reqid group vmoid len buf dev =
+    Sent i (request_bytes (record {
+      command = command;
+      reqid = reqid;
+      group = group;
+      vmoid = vmoid;
+      length = len;
+      vmo_offset = buf;
+      dev_offset = dev;
+    }))
 
 -- an answer received
 abbrev pub got : Status → ℕ → ℕ → ℕ → Event
-got s reqid group count = Received (response_bytes (record { status = status_number s; reqid = reqid; group = group; count = count }))
+got s reqid group count =
+    Received (response_bytes (record {
+      status = status_number s;
+      reqid = reqid;
+      group = group;
+      count = count;
+    }))
 
 abbrev pub accepted : Status → TakenRow
 accepted s = record { verdict = Accepted; outcome = s }
@@ -34,4 +49,13 @@ cells b = replicate 4 b
 
 -- a step of session 1
 abbrev pub step : ℕ → ℕ → Op → ℕ → List ℕ → Bool → Step
-step i k op block bytes faulted = record { hand = 0; session = 1; index = i; k = k; op = op; block = block; bytes = bytes; faulted = faulted }
+step i k op block bytes faulted = record {
+  hand = 0;
+  session = 1;
+  index = i;
+  k = k;
+  op = op;
+  block = block;
+  bytes = bytes;
+  faulted = faulted;
+}

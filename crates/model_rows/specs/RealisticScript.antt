@@ -12,11 +12,21 @@ use Rattle.script_played.specs.Played.{PlaysPlans, asked_of}
 abbrev pub text : List ℕ
 text =
     codes "session 1\nattach 8\nfill 1 0 4 a1\n" ++
-    codes "write 10 1 0 0 1 member 3\nwrite 11 1 1 1 1 member 3\nwrite 12 1 2 2 1 member 3\nwrite 13 1 3 3 1 last 3\nwait\n" ++
+    codes "write 10 1 0 0 1 member 3\nwrite 11 1 1 1 1 member 3\n" ++
+    codes "write 12 1 2 2 1 member 3\nwrite 13 1 3 3 1 last 3\nwait\n" ++
     codes "flush 20\nwait\nread 30 1 4 0 4\nwait\nshow 1 4 4\ndrain\n"
 
 abbrev pub write : ℕ → ℕ → ℕ → ScriptLine
-write command reqid block = Send (request_bytes (record { command = command; reqid = reqid; group = 3; vmoid = 1; length = 1; vmo_offset = block; dev_offset = block }))
+write command reqid block =
+    Send (request_bytes (record {
+      command = command;
+      reqid = reqid;
+      group = 3;
+      vmoid = 1;
+      length = 1;
+      vmo_offset = block;
+      dev_offset = block;
+    }))
 
 abbrev pub plans : List SessionPlan
 plans = record {
@@ -28,9 +38,25 @@ plans = record {
       ∷ write 0x802 12 2
       ∷ write 0xc02 13 3
       ∷ WaitAll
-      ∷ Send (request_bytes (record { command = 3; reqid = 20; group = 0; vmoid = 0; length = 0; vmo_offset = 0; dev_offset = 0 }))
+      ∷ Send (request_bytes (record {
+        command = 3;
+        reqid = 20;
+        group = 0;
+        vmoid = 0;
+        length = 0;
+        vmo_offset = 0;
+        dev_offset = 0;
+      }))
       ∷ WaitAll
-      ∷ Send (request_bytes (record { command = 1; reqid = 30; group = 0; vmoid = 1; length = 4; vmo_offset = 4; dev_offset = 0 }))
+      ∷ Send (request_bytes (record {
+        command = 1;
+        reqid = 30;
+        group = 0;
+        vmoid = 1;
+        length = 4;
+        vmo_offset = 4;
+        dev_offset = 0;
+      }))
       ∷ WaitAll
       ∷ Show 1 4 4
       ∷ [];

@@ -1,4 +1,5 @@
--- For each field of a lawful report, and of one that played a script, a report that breaks that field.
+-- For each field of a lawful report, and of one that played a script, a report that breaks that
+-- field.
 use Rattle.std.specs.Prelude.{ℕ, true, false, List, [], ◌∷◌, ◌++◌, set}
 use Rattle.host_block.specs.declared.range.Range.{Range}
 use Rattle.host_gpt.specs.declared.which.Which.TheVariants.{Backup}
@@ -20,7 +21,9 @@ with_sessions sessions = record report { sessions = in_room sessions }
 
 -- the same with so many blocks, its session on this partition and these blocks
 abbrev pub on_partition : ℕ → ℕ → Range → Report
-on_partition blocks part range = record (with_sessions (record (session_report realistic 1) { part = part; range = range } ∷ [])) { blocks = blocks }
+on_partition blocks part range =
+    record (with_sessions (record (session_report realistic 1) { part = part; range = range }
+    ∷ [])) { blocks = blocks }
 
 -- the one block of the only partition of the small table, and one beside it
 abbrev pub its_block : Range
@@ -46,23 +49,38 @@ pub record ImageIsNeeded : Type 0 where
 pub record RunIsNeeded : Type 0 where
   pub numbers : ¬ IsLawfulRun image (with_sessions (session_report realistic 2 ∷ []))
   -- a session whose last answer is missing
-  pub sessions : ¬ IsLawfulRun image (with_sessions (session_report (record realistic { log = without 10 realistic.log }) 1 ∷ []))
+  pub sessions :
+      ¬ IsLawfulRun image (with_sessions (session_report (record realistic {
+        log = without 10 realistic.log;
+      }) 1 ∷ []))
   -- the only session isn't told, though its steps are
   pub missing : ¬ IsLawfulRun image (with_sessions [])
   -- the closing flush failed, and is told to have ended well; and the other way round
-  pub hidden_fault : ¬ IsLawfulRun image (record report { steps = in_room (realistic.steps ++ closing_flush true ∷ []) })
+  pub hidden_fault :
+      ¬ IsLawfulRun image (record report {
+        steps = in_room (realistic.steps ++ closing_flush true
+            ∷ []);
+      })
   pub made_up_fault : ¬ IsLawfulRun image (record report { closing = Fault })
   -- the closing flush stands before the steps of the session
-  pub flush_first : ¬ IsLawfulRun image (record report { steps = in_room (closing_flush false ∷ realistic.steps) })
+  pub flush_first :
+      ¬ IsLawfulRun image (record report {
+        steps = in_room (closing_flush false ∷ realistic.steps);
+      })
 
 pub record ScriptIsNeeded : Type 0 where
   pub part : ¬ IsPlayedBy (record plan { part = 2 }) run
   pub finish : ¬ IsPlayedBy (record plan { finish = Abort }) run
   -- it filled another page, and did nothing for the last line
-  pub calls : ¬ IsPlayedBy plan (session_report (record realistic { log = set realistic.log 1 (Filled 1 1 4 0xa1 true) }) 1)
-  pub too_few : ¬ IsPlayedBy plan (session_report (record realistic { log = without 11 realistic.log }) 1)
+  pub calls : ¬ IsPlayedBy plan (session_report (record realistic {
+    log = set realistic.log 1 (Filled 1 1 4 0xa1 true);
+  }) 1)
+  pub too_few :
+      ¬ IsPlayedBy plan (session_report (record realistic { log = without 11 realistic.log }) 1)
   -- an answer that is waited for came after the next call
-  pub waits : ¬ IsPlayedBy plan (session_report (record realistic { log = without 6 realistic.log }) 1)
+  pub waits : ¬ IsPlayedBy plan (session_report (record realistic {
+    log = without 6 realistic.log;
+  }) 1)
   -- a session that wasn't asked for, and one that is missing
   pub one_more : ¬ IsPlayed [] report
   pub missing : ¬ IsPlayed (plan ∷ plan ∷ []) report

@@ -1,4 +1,5 @@
--- The run of the realistic session is lawful, and has this text; and lines that a text has with its steps.
+-- The run of the realistic session is lawful, and has this text; and lines that a text has with
+-- its steps.
 use Rattle.std.specs.List.{enumerate_from}
 use Rattle.host_block.specs.declared.op.Op.TheVariants as op
 use Rattle.host_model.specs.declared.event.Event.TheVariants.{Filled}
@@ -54,7 +55,10 @@ pub record ReportsAreAsWritten : Type 0 where
       ++ codes "closing ok\n"
       ++ codes "end\n"
   pub played : IsPlayed (plan ∷ []) report
-  pub eight_lines : report_text (record report { sessions = in_room (empty ∷ []); steps = in_room (closing_flush false ∷ []) }) true ≡
+  pub eight_lines : report_text (record report {
+    sessions = in_room (empty ∷ []);
+    steps = in_room (closing_flush false ∷ []);
+  }) true ≡
       codes "image 128 of 512\n" ++
       codes "table primary\n" ++
       codes "session 1 part 1 first 34 count 30\n" ++
@@ -64,16 +68,20 @@ pub record ReportsAreAsWritten : Type 0 where
       codes "closing ok\n" ++
       codes "end\n"
   -- a flush is printed with block 0 whatever its step has
-  pub step_lines : flat_map step_line (step 0 0 op.Write 34 (cells 0xc1) false ∷ step 1 0 op.Flush 9 [] true ∷ step 2 1 op.Read 35 [] true ∷ step 3 0 op.Read 35 (1 ∷ 0xff ∷ []) false ∷ step 4 0 op.Trim 40 [] false ∷ []) ≡
+  pub step_lines : flat_map step_line (step 0 0 op.Write 34 (cells 0xc1) false
+      ∷ step 1 0 op.Flush 9 [] true ∷ step 2 1 op.Read 35 [] true ∷ step 3 0 op.Read 35 (1 ∷ 0xff
+      ∷ []) false ∷ step 4 0 op.Trim 40 [] false ∷ []) ≡
       codes "  step 1 0 0 write 34 ok all c1\n" ++
       codes "  step 1 1 0 flush 0 fault\n" ++
       codes "  step 1 2 1 read 35 fault\n" ++
       codes "  step 1 3 0 read 35 ok 01ff\n" ++
       codes "  step 1 4 0 trim 40 ok\n"
-  pub row_lines : flat_map row_line (enumerate_from 0 (refused status.OutOfRange ∷ accepted status.Io ∷ [])) ≡
+  pub row_lines :
+      flat_map row_line (enumerate_from 0 (refused status.OutOfRange ∷ accepted status.Io ∷ [])) ≡
       codes "  taken 0 refused -14\n" ++
       codes "  taken 1 accepted -40\n"
-  pub entry_lines : flat_map entry_line (entry (mem.Attach 1 8 0) ∷ entry (mem.Pin 2 1 5) ∷ entry (mem.Lift 2 0 1 3 (cells 0)) ∷ entry (mem.Release 1) ∷ []) ≡
+  pub entry_lines : flat_map entry_line (entry (mem.Attach 1 8 0) ∷ entry (mem.Pin 2 1 5)
+      ∷ entry (mem.Lift 2 0 1 3 (cells 0)) ∷ entry (mem.Release 1) ∷ []) ≡
       codes "  memory attach 1 8 0\n" ++
       codes "  memory pin 2 1\n" ++
       codes "  memory lift 2 0 1 3 all 00\n" ++
@@ -141,8 +149,15 @@ pub record ReportsAreAsWritten : Type 0 where
       codes "closing ok\n" ++
       codes "end\n"
   -- the text without its steps isn't the one with them
-  pub not_with_steps : ¬ (report_text (record report { sessions = in_room (empty ∷ []); steps = in_room (closing_flush false ∷ []) }) false ≡
-      report_text (record report { sessions = in_room (empty ∷ []); steps = in_room (closing_flush false ∷ []) }) true)
+  pub not_with_steps :
+      ¬ (report_text (record report {
+        sessions = in_room (empty ∷ []);
+        steps = in_room (closing_flush false ∷ []);
+      }) false ≡
+      report_text (record report {
+        sessions = in_room (empty ∷ []);
+        steps = in_room (closing_flush false ∷ []);
+      }) true)
   -- a fill that wasn't done, and an answer that failed
   pub undone_fill : event_line (Filled 1 0 4 0xa1 false) ≡ codes "  fill 1 0 4 a1 no\n"
   pub failed_answer : answer_line failed ≡ codes "  answer -40 reqid 7 group 0 count 1\n"

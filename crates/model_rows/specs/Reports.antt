@@ -24,7 +24,15 @@ entry e = record { hand = 0; what = e }
 
 -- the report of a session, of this number and on the partition of this number
 abbrev pub session_report : Session → ℕ → SessionReport
-session_report s number = record { number = number; part = number; range = s.range; log = in_room s.log; taken = in_room s.rows; memory = in_room (map entry s.memory); finish = s.finish }
+session_report s number = record {
+  number = number;
+  part = number;
+  range = s.range;
+  log = in_room s.log;
+  taken = in_room s.rows;
+  memory = in_room (map entry s.memory);
+  finish = s.finish;
+}
 
 abbrev pub report : Report
 report = record {
@@ -41,7 +49,16 @@ abbrev pub image : List (List ℕ)
 image = replicate 128 (replicate 512 0)
 
 abbrev pub write : ℕ → ℕ → ℕ → Ask
-write command reqid block = send (request_bytes (record { command = command; reqid = reqid; group = 3; vmoid = 1; length = 1; vmo_offset = block; dev_offset = block }))
+write command reqid block =
+    send (request_bytes (record {
+      command = command;
+      reqid = reqid;
+      group = 3;
+      vmoid = 1;
+      length = 1;
+      vmo_offset = block;
+      dev_offset = block;
+    }))
 
 -- what the client was asked to do
 abbrev pub plan : Plan
@@ -54,9 +71,25 @@ plan = record {
       ∷ write 0x802 12 2
       ∷ write 0xc02 13 3
       ∷ wait_all
-      ∷ send (request_bytes (record { command = 3; reqid = 20; group = 0; vmoid = 0; length = 0; vmo_offset = 0; dev_offset = 0 }))
+      ∷ send (request_bytes (record {
+        command = 3;
+        reqid = 20;
+        group = 0;
+        vmoid = 0;
+        length = 0;
+        vmo_offset = 0;
+        dev_offset = 0;
+      }))
       ∷ wait_all
-      ∷ send (request_bytes (record { command = 1; reqid = 30; group = 0; vmoid = 1; length = 4; vmo_offset = 4; dev_offset = 0 }))
+      ∷ send (request_bytes (record {
+        command = 1;
+        reqid = 30;
+        group = 0;
+        vmoid = 1;
+        length = 4;
+        vmo_offset = 4;
+        dev_offset = 0;
+      }))
       ∷ wait_all
       ∷ show 1 4 4
       ∷ [];
@@ -64,4 +97,12 @@ plan = record {
 }
 
 abbrev pub empty : SessionReport
-empty = record { number = 1; part = 1; range = part; log = in_room (Drained ∷ []); taken = in_room []; memory = in_room []; finish = Drain }
+empty = record {
+  number = 1;
+  part = 1;
+  range = part;
+  log = in_room (Drained ∷ []);
+  taken = in_room [];
+  memory = in_room [];
+  finish = Drain;
+}

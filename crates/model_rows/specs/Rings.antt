@@ -50,7 +50,8 @@ pub record RingsAreAsWritten : Type 0 where
   pub of_nobody : sent_by 2 history ≡ []
   pub of_two : AllBelow 2 history
   pub not_of_one : ¬ AllBelow 1 history
-  pub places : EachPlace (λ k pushed. IsPrefix (sent_by k ((1, b) ∷ (0, a) ∷ [])) pushed) ((a ∷ []) ∷ (b ∷ c ∷ []) ∷ [])
+  pub places : EachPlace (λ k pushed. IsPrefix (sent_by k ((1, b) ∷ (0, a) ∷ [])) pushed) ((a ∷ [])
+      ∷ (b ∷ c ∷ []) ∷ [])
   -- c is still in the ring
   pub taken_two : ComeFrom ((a ∷ []) ∷ (b ∷ c ∷ []) ∷ []) (b ∷ a ∷ [])
   pub holds_after : HoldsAfter 1 (b ∷ c ∷ []) (c ∷ [])

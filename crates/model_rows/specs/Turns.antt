@@ -18,7 +18,17 @@ history = (0, 7) ∷ (1, 8) ∷ (0, 9) ∷ []
 
 -- a book with three seats, of which none was made yet
 abbrev pub seatless : View Entry ℕ
-seatless = record { stage = Maker; number = 0; ticket = 0; share = 3; fixed = Some 5; seen = []; told = []; told_fixed = Some 5; members = [] }
+seatless = record {
+  stage = Maker;
+  number = 0;
+  ticket = 0;
+  share = 3;
+  fixed = Some 5;
+  seen = [];
+  told = [];
+  told_fixed = Some 5;
+  members = [];
+}
 
 -- the seat 0 has drawn ticket 4, the seat 1 has the turn
 abbrev pub seat_0 : View Entry ℕ
@@ -49,5 +59,6 @@ pub record TurnsAreAsWritten : Type 0 where
   -- the seat 0 is told what the seat 1 has seen, and has then seen it
   pub told_all : (merged_view (told_view seat_0 (note_view seat_1))).seen ≡ history
   pub both_taken_in : members_of (gathered_view seat_0 seat_1) ≡ (1, history) ∷ (0, []) ∷ []
-  pub has_both_numbers : HasNumber (members_of (gathered_view seat_0 seat_1)) 0 × HasNumber (members_of (gathered_view seat_0 seat_1)) 1
+  pub has_both_numbers : HasNumber (members_of (gathered_view seat_0 seat_1)) 0
+      × HasNumber (members_of (gathered_view seat_0 seat_1)) 1
   pub one_has_seen_all : AnyHasSeen (members_of (gathered_view seat_0 seat_1)) history

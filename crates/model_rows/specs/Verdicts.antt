@@ -7,7 +7,8 @@ use Rattle.host_record.specs.declared.request.Request.{Request}
 use Rattle.host_record.specs.declared.status.Status.TheVariants.{InvalidArgs, NotFound, NotSupported, OutOfRange, TooSmall}
 use Rattle.model_rows.specs.Parts.{part}
 
--- a request with this command and group, for so many blocks, from a page of buffer 1 and from a block on
+-- a request with this command and group, for so many blocks, from a page of buffer 1 and from a
+-- block on
 abbrev pub asked : ℕ → ℕ → ℕ → ℕ → ℕ → Request
 asked command group blocks page block = record {
   command = command;

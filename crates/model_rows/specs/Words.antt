@@ -11,14 +11,18 @@ plain_run image = run image 512 None None false false false
 
 pub record WordsAreCommands : Type 0 where
   pub named_commands : (command_of (codes "run" ∷ base ∷ []) ≡ Some (plain_run base))
-      × (command_of (codes "run" ∷ codes "--dry" ∷ base ∷ []) ≡ Some (run base 512 None None true false false))
+      × (command_of (codes "run" ∷ codes "--dry" ∷ base ∷ [])
+      ≡ Some (run base 512 None None true false false))
       × (command_of (codes "run" ∷ codes "--" ∷ base ∷ []) ≡ Some (plain_run base))
       × (command_of (codes "run" ∷ codes "--" ∷ codes "--" ∷ []) ≡ Some (plain_run (codes "--")))
       × (command_of (codes "run" ∷ codes "-" ∷ []) ≡ Some (plain_run (codes "-")))
-      × (command_of (codes "run" ∷ base ∷ codes "--workers" ∷ codes "016" ∷ codes "--steps" ∷ codes "--depth=128" ∷ []) ≡ Some (run base 512 (Some 16) (Some 128) false false true))
-      × (command_of (codes "list" ∷ base ∷ codes "--block=4096" ∷ codes "--" ∷ []) ≡ Some (lists base 4096))
+      × (command_of (codes "run" ∷ base ∷ codes "--workers" ∷ codes "016" ∷ codes "--steps"
+      ∷ codes "--depth=128" ∷ []) ≡ Some (run base 512 (Some 16) (Some 128) false false true))
+      × (command_of (codes "list" ∷ base ∷ codes "--block=4096" ∷ codes "--" ∷ [])
+      ≡ Some (lists base 4096))
       × (command_of (codes "make" ∷ codes "1" ∷ codes "1" ∷ codes "2" ∷ []) ≡ Some (make 1 1 2))
-      × (command_of (codes "load" ∷ base ∷ codes "7" ∷ codes "16" ∷ codes "2048" ∷ codes "--workers" ∷ codes "4" ∷ []) ≡ Some (load base 7 16 2048 512 (Some 4) None))
+      × (command_of (codes "load" ∷ base ∷ codes "7" ∷ codes "16" ∷ codes "2048" ∷ codes "--workers"
+      ∷ codes "4" ∷ []) ≡ Some (load base 7 16 2048 512 (Some 4) None))
   pub refused_words : (command_of [] ≡ None)
       × (command_of (codes "walk" ∷ base ∷ []) ≡ None)
       × (command_of (codes "--" ∷ codes "run" ∷ base ∷ []) ≡ None)

@@ -1,4 +1,5 @@
--- Headers and arrays that differ in one thing from those of the small image, each refused by the part that it breaks; and the
+-- Headers and arrays that differ in one thing from those of the small image, each refused by the
+-- part that it breaks; and the
 -- backup that is taken where the primary header isn't valid.
 use Rattle.std.specs.Prelude.{◌≡◌, ℕ, List, [], ◌∷◌, ◌++◌, drop, replicate, set, take}
 use Rattle.host_gpt.specs.Crc.{crc_of}
@@ -15,7 +16,8 @@ changed at byte = set header_block at byte
 
 -- with another place of its own, and its right CRC
 abbrev pub backup_block : List ℕ
-backup_block = take 16 header_block ++ (81 ∷ 38 ∷ 153 ∷ 252 ∷ 0 ∷ 0 ∷ 0 ∷ 0 ∷ 3 ∷ []) ++ drop 25 header_block
+backup_block = take 16 header_block ++ (81 ∷ 38 ∷ 153 ∷ 252 ∷ 0 ∷ 0 ∷ 0 ∷ 0 ∷ 3 ∷ [])
+    ++ drop 25 header_block
 
 -- the primary header is gone, and the backup stands in the last block
 abbrev pub damaged : List (List ℕ)

@@ -1,5 +1,5 @@
-//! Worked rows: what the definitions of the model say of values that are written out, right ones and wrong ones, each the
-//! contract of a function that does nothing.
+//! Worked rows: what the definitions of the model say of values that are written out, right ones
+//! and wrong ones, each the contract of a function that does nothing.
 #![tactic(auto)]
 
 mod rows;

@@ -24,12 +24,14 @@ ghost use Rattle.model_rows.specs.WrongReports.{WrongReportsAreRefused};
 ghost use Rattle.model_rows.specs.WrongSessions.{WrongSessionsAreRefused};
 ghost use Rattle.model_rows.specs.WrongTables.{WrongTablesAreRefused};
 
-/// Check sums, and the table of a small image: four blocks, one entry of 128 bytes, and a primary header alone.
+/// Check sums, and the table of a small image: four blocks, one entry of 128 bytes, and a primary
+/// header alone.
 pub fn a_table_is_read()
     ensures { TableIsRead }
 {}
 
-/// The course of a client: it attaches a buffer, sends a read, receives its answer, fills the buffer, and is shown none of another.
+/// The course of a client: it attaches a buffer, sends a read, receives its answer, fills the
+/// buffer, and is shown none of another.
 pub fn clients_are_as_written()
     ensures { ClientsAreAsWritten }
 {}
@@ -44,12 +46,14 @@ pub fn frames_are_as_written()
     ensures { FramesAreAsWritten }
 {}
 
-/// An instance of three members, of which the second and the third fail, and the third settled first.
+/// An instance of three members, of which the second and the third fail, and the third settled
+/// first.
 pub fn groups_are_as_written()
     ensures { GroupsAreAsWritten }
 {}
 
-/// The history of an intake: a read that pins its buffer, a close of a buffer that isn't there, and a close that waits for the read.
+/// The history of an intake: a read that pins its buffer, a close of a buffer that isn't there,
+/// and a close that waits for the read.
 pub fn intakes_are_as_written()
     ensures { IntakesAreAsWritten }
 {}
@@ -69,7 +73,8 @@ pub fn records_are_as_written()
     ensures { RecordsAreAsWritten }
 {}
 
-/// The run of the realistic session is lawful, and has this text; and lines that a text has with its steps.
+/// The run of the realistic session is lawful, and has this text; and lines that a text has with
+/// its steps.
 pub fn reports_are_as_written()
     ensures { ReportsAreAsWritten }
 {}
