@@ -1,5 +1,5 @@
 -- The disk model on small values.
-use Rattle.std.proofs.Common.{ℕ, ◌<◌, zero, suc, inl, inr, [], ◌∷◌, refl, arith}
+use Rattle.std.proofs.Common.{◌≡◌, ℕ, ◌<◌, zero, suc, inl, inr, [], ◌∷◌, refl, arith}
 use Rattle.host_block.specs.Crash.{IsVersion, IsCrashImage}
 use Rattle.host_block.specs.Disk.{block_at, added, fresh, IsCandidate, IsCrashOf, IsCrashInside}
 use Rattle.model_rows.specs.Disk.{image, disk, history, DisksAreAsWritten}
@@ -69,4 +69,23 @@ disks_are_as_written = record {
   flushed = refl;
   never_flushed = refl;
   left_after = left_after;
+  largest_size = inr (inr (inr refl));
+  size_between = λ size. elim size [
+    | inl e ↦ omega (arith, e)
+    | inr (inl e) ↦ omega (
+      arith,
+      e,
+    )
+    | inr (inr (inl e)) ↦ omega (arith, e)
+    | inr (inr (inr e)) ↦ omega (arith, e)
+  ];
+  too_large = λ size. elim size [
+    | inl e ↦ omega (arith, e)
+    | inr (inl e) ↦ omega (
+      arith,
+      e,
+    )
+    | inr (inr (inl e)) ↦ omega (arith, e)
+    | inr (inr (inr e)) ↦ omega (arith, e)
+  ];
 }

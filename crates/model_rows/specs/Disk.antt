@@ -6,6 +6,7 @@ use Rattle.host_block.specs.Disk.{DiskState, read_of, added, synced, part_synced
 use Rattle.host_block.specs.Lists.{IsPrefix}
 use Rattle.host_block.specs.Range.{IsWithin}
 use Rattle.host_block.specs.Room.{spare_of}
+use Rattle.host_block.specs.Size.{IsBlockSize}
 use Rattle.host_block.specs.declared.op.Op.TheVariants.{Read, Write, Trim, Flush}
 
 abbrev pub image : List (List ℕ)
@@ -61,3 +62,7 @@ pub record DisksAreAsWritten : Type 0 where
   pub never_flushed : barrier [] ≡ 0
   -- the flushed write stays, the trim may be lost
   pub left_after : IsCrashImage image history ((7 ∷ 7 ∷ []) ∷ (2 ∷ 2 ∷ []) ∷ [])
+  -- the sizes of a block
+  pub largest_size : IsBlockSize 4096
+  pub size_between : ¬ IsBlockSize 1536
+  pub too_large : ¬ IsBlockSize 8192
