@@ -1,11 +1,13 @@
 pub mod BadScript
 pub mod Crash
 pub mod Drive
+pub mod Endings
 pub mod Headline
 pub mod Lines
 pub mod NoTable
 pub mod Reports
 pub mod Script
+pub mod TableTexts
 pub mod Words
 pub mod WrongEnds
 pub mod WrongRuns

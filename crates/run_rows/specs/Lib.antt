@@ -1,10 +1,12 @@
 pub mod BadScript
 pub mod Drive
+pub mod Endings
 pub mod Headline
 pub mod Lines
 pub mod NoTable
 pub mod Reports
 pub mod Run
+pub mod TableTexts
 pub mod Words
 pub mod WrongEnds
 pub mod WrongRuns

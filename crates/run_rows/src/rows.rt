@@ -1,9 +1,11 @@
 //! Rows that are written out.
 ghost use Rattle.run_rows.specs.BadScript.{BadScriptIsTold};
+ghost use Rattle.run_rows.specs.Endings.{EndingsAreAsWritten};
 ghost use Rattle.run_rows.specs.Headline.{RunHasHeadline};
 ghost use Rattle.run_rows.specs.Lines.{RefusalsHaveLines};
 ghost use Rattle.run_rows.specs.NoTable.{NoTableIsTold};
 ghost use Rattle.run_rows.specs.Reports.{StatusesComeWithReports};
+ghost use Rattle.run_rows.specs.TableTexts.{TablesHaveTheirText};
 ghost use Rattle.run_rows.specs.Words.{WordsAskForRuns};
 ghost use Rattle.run_rows.specs.WrongEnds.{WrongEndsAreRefused};
 ghost use Rattle.run_rows.specs.WrongRuns.{WrongRunsAreRefused};
@@ -46,4 +48,14 @@ pub fn a_bad_script_is_told()
 /// A run on an image without a table ends with status 3, and one on an image that has a table doesn't.
 pub fn a_missing_table_is_told()
     ensures { NoTableIsTold }
+{}
+
+/// The marks, names, ids and attributes of a table's text, and values that they aren't.
+pub fn tables_have_their_text()
+    ensures { TablesHaveTheirText }
+{}
+
+/// How sessions end, for which records an answer is owed, and that the answer to a group isn't that to its last member.
+pub fn endings_are_as_written()
+    ensures { EndingsAreAsWritten }
 {}
