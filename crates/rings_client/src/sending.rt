@@ -25,7 +25,7 @@ pub fn send_one<R: Wait>(rt: &R, sender: &mut Sender, envelope: Envelope)
 // Lets other threads run now and then.
 pub(crate) fn wait_a_little(tries: &mut u32) {
     *tries = tries.wrapping_add(1);
-    if *tries % 65_536 == 0 {
+    if *tries % 1_024 == 0 {
         thread::yield_now();
     }
 }
