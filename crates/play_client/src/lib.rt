@@ -1,4 +1,4 @@
-//! The tests of `host_play`: scripts that are played on disks in memory, whose reports the plain judges judge.
+//! A script that is played on a disk in memory, and the test that uses up the ids of a session, which is too long for a case.
 #![tactic(auto)]
 
 mod begun;

@@ -1,7 +1,5 @@
-//! The table of words of a call with the statuses that they end with.
+//! The tests of `host_words`: words of a call, and the command that they are.
 #![tactic(auto)]
 
 #[cfg(test)]
 mod reading;
-#[cfg(test)]
-mod tests;

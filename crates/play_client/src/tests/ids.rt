@@ -1,6 +1,6 @@
 //! The ids of a session are used up.
-use super::cases::{Image, image_of};
 use crate::run_text;
+use host_gpt::sample::base_image;
 use host_io::OpenGate;
 use host_model::Event;
 use host_play::Setting;
@@ -29,7 +29,7 @@ fn uses_up<R: Threads + Wait + Sync>(rt: &R, alloc: Global, workers: u32) -> Opt
     if workers == 0 || workers > 16 {
         return None;
     }
-    let image = image_of(alloc, Image::Base)?;
+    let image = base_image(alloc).ok()?;
     let text = text(alloc, 65_535).ok()?;
     let setting = Setting {
         workers,
