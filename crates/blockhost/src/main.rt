@@ -3,27 +3,29 @@
 //! a summary. `blockhost list IMAGE` prints the partition table, `blockhost make SEED SESSIONS REQUESTS` a generated script.
 #![tactic(auto)]
 
+mod ending;
+
+ghost use Rattle.std.specs.Prelude.{IfOk};
+ghost use Rattle.blockhost.specs.Program.{IsProgramEnd};
+
+use crate::ending::{exit_code, run_words};
 use host_file::{FileDisk, RealFile, StdSink, StdSource, WordsError, program_words};
-use host_io::OpenGate;
-use host_run::run;
 use std::alloc::AllocError;
 use std::fs::File;
 use std::io;
-use std::mem::forget;
 use std::process::ExitCode;
 use std::sync::Wait;
 use std::thread::Threads;
 
 fn main(rt: HostRuntime) -> ExitCode {
-    match run_program(&rt, &rt) {
-        Ok(number) => ExitCode::from(number),
-        Err(_) => ExitCode::from(8),
-    }
+    exit_code(run_program(&rt, &rt))
 }
 
 // Runs the program's words on the real files and streams, in threads of the second handle, and gives the number of the
 // status.
-fn run_program<R: Threads + Wait + Sync>(rt: &HostRuntime, threads: &R) -> io::Result<u8> {
+fn run_program<R: Threads + Wait + Sync>(rt: &HostRuntime, threads: &R) -> io::Result<u8>
+    ensures { IfOk result IsProgramEnd }
+{
     // The number of a standard stream that is closed goes to a folder, which takes no text. Else the image would get it, and
     // the text of the run with it. So nothing is run where that fails.
     let _in = File::open(rt, "/")?;
@@ -34,22 +36,11 @@ fn run_program<R: Threads + Wait + Sync>(rt: &HostRuntime, threads: &R) -> io::R
     let mut script = StdSource::new(rt.reader());
     let mut out = StdSink::new(io::writer(rt));
     let disk = FileDisk::new(RealFile::new(rt.clone()?));
-    let outcome = run(
-        threads,
-        rt.alloc(),
-        &words,
-        &mut script,
-        disk,
-        &mut out,
-        &OpenGate,
-    );
-    if outcome.disk.is_held() {
+    let ended = run_words(threads, rt.alloc(), &words, &mut script, disk, &mut out);
+    if ended.disk.is_held() {
         let _ = eprintln!(rt; "blockhost: another program has the image");
     }
-    let number = outcome.status.number();
-    // The process ends now, and its memory goes back with it. Giving back a long report piece by piece would take longer.
-    forget(outcome);
-    Ok(number)
+    Ok(ended.number)
 }
 
 // The words after the program's name. Words that are no text are outside the grammar, as no words are, and are taken for

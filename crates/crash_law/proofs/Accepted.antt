@@ -20,7 +20,7 @@ use Rattle.host_model.proofs.Checks.{first_check_decides}
 use Rattle.host_model.proofs.Growth.{verdict_at}
 use Rattle.host_model.proofs.ListTests.{both}
 
-all_at : {A : Type 0} (p : A → Bool) (xs : List A) (n : ℕ) (x : A) → list_all p xs ≡ true → slice_get xs n ≡ Some x → p x ≡ true
+pub all_at : {A : Type 0} (p : A → Bool) (xs : List A) (n : ℕ) (x : A) → list_all p xs ≡ true → slice_get xs n ≡ Some x → p x ≡ true
 all_at p [] zero x all at = absurd (cc)
 all_at p [] (suc n) x all at = absurd (cc)
 all_at p (y ∷ ys) zero x all at = let same : y ≡ x = cc in ap p (sym same) ∙ (both (p y) (list_all p ys) all).0

@@ -3,3 +3,4 @@ pub mod Barriers
 pub mod Accepted
 pub mod Steps
 pub mod Survival
+pub mod Ended

@@ -2,16 +2,8 @@
 use Rattle.std.proofs.Common.{◌≡◌, ℕ, zero, suc, ◌+◌, ◌<◌, Bool, true, false, cond, List, [], ◌∷◌, filter, map, Some, refl, ap, subst, ◌∙◌, arith}
 use Rattle.std.specs.Prelude.{Contains}
 use Rattle.std.specs.List.{AllByRecursion, slice_get, slice_index_or}
-use Rattle.host_block.proofs.Places.{from_filter, within}
+use Rattle.host_block.proofs.Places.{within}
 use Rattle.host_model.specs.Lists.{places_from}
-
--- x stands before y
-pub record StandInOrder {A : Type 0} (xs : List A) (x y : A) : Type 0 where
-  pub first : ℕ
-  pub second : ℕ
-  pub early : slice_get xs first ≡ Some x
-  pub late : slice_get xs second ≡ Some y
-  pub before : first < second
 
 module _ {A : Type 0} where
   -- what holds of all holds of one
@@ -23,21 +15,37 @@ module _ {A : Type 0} where
 
   -- ---- those that pass
 
-  pub filter_order : (p : A → Bool) (xs : List A) (i j : ℕ) (x y : A) → slice_get (filter p xs) i ≡ Some x → slice_get (filter p xs) j ≡ Some y → i < j → StandInOrder xs x y
-  filter_order p [] zero j x y at bt lt = absurd (cc)
-  filter_order p [] (suc i) j x y at bt lt = absurd (cc)
-  filter_order p (z ∷ zs) i j x y at bt lt = step (p z) i j at bt lt (λ k l a c g. filter_order p zs k l x y a c g)
-    where
-      later : StandInOrder zs x y → StandInOrder (z ∷ zs) x y
-      later r = let h = r.before in record { first = suc r.first; second = suc r.second; early = r.early; late = r.late; before = omega arith }
+  -- how many of the first n pass
+  abbrev pub rank : (A → Bool) → List A → ℕ → ℕ
+  rank p [] n = 0
+  rank p (y ∷ ys) zero = 0
+  rank p (y ∷ ys) (suc n) = cond (p y) (suc (rank p ys n)) (rank p ys n)
 
-      step : (b : Bool) (k l : ℕ) → slice_get (cond b (z ∷ filter p zs) (filter p zs)) k ≡ Some x → slice_get (cond b (z ∷ filter p zs) (filter p zs)) l ≡ Some y → k < l
-          → ((k l : ℕ) → slice_get (filter p zs) k ≡ Some x → slice_get (filter p zs) l ≡ Some y → k < l → StandInOrder zs x y) → StandInOrder (z ∷ zs) x y
-      step false k l a c g more = later (more k l a c g)
-      step true zero zero a c g more = absurd (omega arith)
-      step true zero (suc l) a c g more = let r = from_filter p zs l y c in record { first = 0; second = suc r.0; early = a; late = r.1; before = omega arith }
-      step true (suc k) zero a c g more = absurd (omega arith)
-      step true (suc k) (suc l) a c g more = later (more k l a c (omega arith))
+  -- one that passes stands among those that pass where so many passed before it
+  pub at_rank : (p : A → Bool) (xs : List A) (n : ℕ) (x : A) → slice_get xs n ≡ Some x → p x ≡ true → slice_get (filter p xs) (rank p xs n) ≡ Some x
+  at_rank p [] zero x at is = absurd (cc)
+  at_rank p [] (suc n) x at is = absurd (cc)
+  at_rank p (y ∷ ys) zero x at is =
+      let same : y ≡ x = cc in
+      let t : p y ≡ true = ap p same ∙ is in
+      ap (λ b. slice_get (cond b (y ∷ filter p ys) (filter p ys)) 0) t ∙ at
+  at_rank p (y ∷ ys) (suc n) x at is = step (p y) (at_rank p ys n x at is)
+    where
+      step : (b : Bool) → slice_get (filter p ys) (rank p ys n) ≡ Some x → slice_get (cond b (y ∷ filter p ys) (filter p ys)) (cond b (suc (rank p ys n)) (rank p ys n)) ≡ Some x
+      step true r = r
+      step false r = r
+
+  -- fewer passed before the earlier one
+  pub rank_order : (p : A → Bool) (xs : List A) (n m : ℕ) → rank p xs n < rank p xs m → n < m
+  rank_order p [] n m less = absurd (let none : 0 < 0 = less in omega (arith, none))
+  rank_order p (y ∷ ys) zero zero less = absurd (let none : 0 < 0 = less in omega (arith, none))
+  rank_order p (y ∷ ys) (suc n) zero less = absurd (let none : rank p (y ∷ ys) (suc n) < 0 = less in omega (arith, none))
+  rank_order p (y ∷ ys) zero (suc m) less = omega arith
+  rank_order p (y ∷ ys) (suc n) (suc m) less = let r = rank_order p ys n m (step (p y) less) in omega (arith, r)
+    where
+      step : (b : Bool) → cond b (suc (rank p ys n)) (rank p ys n) < cond b (suc (rank p ys m)) (rank p ys m) → rank p ys n < rank p ys m
+      step true e = let f : suc (rank p ys n) < suc (rank p ys m) = e in omega (arith, f)
+      step false e = e
 
   place_at : (p : A → Bool) (a : ℕ) (xs : List A) (n : ℕ) (x : A) → slice_get xs n ≡ Some x → p x ≡ true → (j : ℕ) × (slice_get (places_from a p xs) j ≡ Some (a + n))
   place_at p a [] zero x at is = absurd (cc)

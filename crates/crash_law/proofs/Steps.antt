@@ -18,7 +18,7 @@ use Rattle.host_model.specs.Lists.{below, is_nil}
 use Rattle.host_model.specs.Log.{request_at, requests}
 use Rattle.host_model.specs.Session.{Session}
 use Rattle.host_model.proofs.ListTests.{both}
-use Rattle.crash_law.specs.Survival.{IsDone, changes_blocks}
+use Rattle.crash_law.specs.Ended.{IsDone, changes_blocks}
 use Rattle.crash_law.proofs.Accepted.{accepted_so}
 
 -- ---- all steps
@@ -42,7 +42,7 @@ all_made (a ∷ asks) (made ∷ steps) k ask c e at = step made.faulted refl c e
 
 -- ---- what a step is for
 
-last_two : (a b c : Bool) → (a && b && c) ≡ true → (b ≡ true) × (c ≡ true)
+pub last_two : (a b c : Bool) → (a && b && c) ≡ true → (b ≡ true) × (c ≡ true)
 last_two true true true e = (refl, refl)
 last_two true true false e = absurd (cc)
 last_two true false c e = absurd (cc)
@@ -123,8 +123,6 @@ pub record IsWriting (s : Session) (i b : ℕ) : Type 0 where
   pub stands : slice_get s.steps place ≡ Some step
   pub index : (step.index == i) ≡ true
   pub writes : changes_block (change_of step) b ≡ true
-  pub puts : puts_bytes step.op ≡ true
-  pub block : (step.block == b) ≡ true
 
 pub writing : (s : Session) (l : IsLawfulSession s) (i : ℕ) (kind : Opcode) → changes_blocks kind ≡ true → IsDone s i kind → (k : ℕ) → k < (request_at (requests s.log) i).length
     → IsWriting s i (s.range.first + (request_at (requests s.log) i).dev_offset + k)
@@ -140,8 +138,6 @@ writing s l i kind is d k lt =
       stands = m.stands;
       index = m.index;
       writes = changes m.step.faulted (puts_bytes m.step.op) (m.step.block == s.range.first + (request_at (requests s.log) i).dev_offset + k) m.good (a.3 m.step.op t.0) block;
-      puts = a.3 m.step.op t.0;
-      block = block;
     }
 
 -- the step of a flush

@@ -1,33 +1,17 @@
--- A write or trim that was answered before a flush was sent outlives a crash, once the flush is done.
-use Rattle.std.specs.Prelude.{◌≡◌, ℕ, ◌+◌, ◌<◌, ◌≤◌, Bool, true, false, List, length, slice_get, Some}
-use Rattle.host_block.specs.Changes.{changes_block, put_by}
+-- What a crash can't take: each step of a write or trim that was answered before a flush was sent, once that flush is done.
+use Rattle.std.specs.Prelude.{◌≡◌, ℕ, ◌≤◌, true, List, length, slice_get, take, Some}
+use Rattle.host_block.specs.Changes.{changes_block, is_barrier, put_by}
 use Rattle.host_block.specs.Crash.{IsCrashImage}
 use Rattle.host_block.specs.Disk.{block_at}
-use Rattle.host_record.specs.declared.opcode.Opcode.{Opcode}
-use Rattle.host_record.specs.declared.opcode.Opcode.TheVariants.{Flush, Trim, Write}
-use Rattle.host_record.specs.declared.status.Status.TheVariants as status
-use Rattle.host_record.specs.Command.{opcode}
 use Rattle.host_model.specs.declared.step.Step.{Step}
 use Rattle.host_model.specs.Changes.{change_of, changes_of}
-use Rattle.host_model.specs.Log.{request_at, requests, sending}
+use Rattle.host_model.specs.Log.{sending}
 use Rattle.host_model.specs.Order.{HadBefore}
-use Rattle.host_model.specs.Session.{Session}
-use Rattle.host_model.specs.Taking.{row_at}
 use Rattle.host_report.specs.declared.report.Report.{Report}
 use Rattle.host_report.specs.declared.session.SessionReport.{SessionReport}
 use Rattle.host_report.specs.Lawful.{IsLawful, session_of}
 
--- whether a request of this kind changes blocks
-abbrev pub changes_blocks : Opcode → Bool
-changes_blocks Write = true
-changes_blocks Trim = true
-changes_blocks _ = false
-
--- record i asked for this, was taken and ended well
-pub record IsDone (s : Session) (i : ℕ) (kind : Opcode) : Type 0 where
-  pub taken : i < length s.rows
-  pub asks : opcode (request_at (requests s.log) i) ≡ Some kind
-  pub ended : (row_at s.rows i).outcome ≡ status.Ok
+-- ---- steps
 
 -- The step at this place wrote or trimmed block b for record i of a session, and didn't fail.
 pub record WroteBlock (steps : List Step) (session i b place : ℕ) : Type 0 where
@@ -35,6 +19,14 @@ pub record WroteBlock (steps : List Step) (session i b place : ℕ) : Type 0 whe
   pub stands : slice_get steps place ≡ Some step
   pub names : (step.session ≡ session) × (step.index ≡ i)
   pub writes : changes_block (change_of step) b ≡ true
+
+-- Among these steps is the flush that record i of a session asked for, and it didn't fail.
+pub record WasFlushed (steps : List Step) (session i : ℕ) : Type 0 where
+  pub place : ℕ
+  pub step : Step
+  pub stands : slice_get steps place ≡ Some step
+  pub names : (step.session ≡ session) × (step.index ≡ i)
+  pub flushes : is_barrier (change_of step) ≡ true
 
 -- These are the bytes that a step on block b put there which is not before this place.
 pub record WerePutSince (steps : List Step) (size b place : ℕ) (bytes : List ℕ) : Type 0 where
@@ -45,20 +37,21 @@ pub record WerePutSince (steps : List Step) (size b place : ℕ) (bytes : List �
   pub writes : changes_block (change_of step) b ≡ true
   pub are : bytes ≡ put_by size step.op step.bytes
 
--- Block b, which record i wrote or trimmed, has after a crash the bytes of that step, or those of a later write or trim.
-pub record HasSurvived (image : List (List ℕ)) (steps : List Step) (session i b : ℕ) (after : List (List ℕ)) : Type 0 where
-  pub place : ℕ
-  pub wrote : WroteBlock steps session i b place
-  pub left : WerePutSince steps (length (block_at image b)) b place (block_at after b)
+-- ---- what has survived
 
--- In this image has survived what was flushed: where the answer to a write or trim was had before a flush was sent, by the log of
--- one client, and both ended well, each of the blocks that it wrote.
-abbrev pub KeepsFlushed : List (List ℕ) → Report → List (List ℕ) → Type 0
-KeepsFlushed image report left = (n : ℕ) (e : SessionReport) → slice_get report.sessions.items n ≡ Some e
-    → (w f : ℕ) (kind : Opcode) → changes_blocks kind ≡ true → IsDone (session_of report e) w kind → IsDone (session_of report e) f Flush → HadBefore (session_of report e) (sending e.log.items f) w
-    → (k : ℕ) → k < (request_at (requests e.log.items) w).length
-    → HasSurvived image report.steps.items e.number w (e.range.first + (request_at (requests e.log.items) w).dev_offset + k) left
+-- In what a crash leaves once these steps are made has survived what was flushed. Where the answer to record w was had before
+-- flush f was sent, by the log of one client, and the flush is among these steps, then each block that a step of w wrote or
+-- trimmed, whatever the outcome of w, has the bytes of that step or those of a later one among these.
+abbrev pub KeepsFlushed : List (List ℕ) → Report → List Step → List (List ℕ) → Type 0
+KeepsFlushed image report made left = (n : ℕ) (e : SessionReport) → slice_get report.sessions.items n ≡ Some e
+    → (w f : ℕ) → HadBefore (session_of report e) (sending e.log.items f) w → WasFlushed made e.number f
+    → (b place : ℕ) → WroteBlock report.steps.items e.number w b place → WerePutSince made (length (block_at image b)) b place (block_at left b)
 
--- of a lawful report, every image that a crash may leave after its steps
+-- So it is at every moment: once the first so many steps of the report are made, in each image that a crash may leave then.
+abbrev pub KeepsAtEachMoment : List (List ℕ) → Report → Type 0
+KeepsAtEachMoment image report = (count : ℕ) (left : List (List ℕ)) → let made = take count report.steps.items in
+    IsCrashImage image (changes_of made) left → KeepsFlushed image report made left
+
+-- of every lawful report
 abbrev pub FlushedWritesSurvive : Type 0
-FlushedWritesSurvive = (image : List (List ℕ)) (report : Report) (left : List (List ℕ)) → IsLawful image report → IsCrashImage image (changes_of report.steps.items) left → KeepsFlushed image report left
+FlushedWritesSurvive = (image : List (List ℕ)) (report : Report) → IsLawful image report → KeepsAtEachMoment image report

@@ -3,4 +3,4 @@
 
 mod laws;
 
-pub use laws::flushed_writes_survive;
+pub use laws::{ended_writes_survive, flushed_writes_survive};

@@ -78,6 +78,7 @@ fn a_crash_keeps_the_flushed_write(rt: HostRuntime) -> Result<(), Fail> {
     assert!(rt; flush(alloc, &mut device).is_ok());
     assert!(rt; write_fill(alloc, &mut device, 34, 0xb2).is_ok());
     let (steps, cache) = device.into_parts();
+    let steps = steps.into_list().ok_or("steps")?;
     assert_eq!(rt; steps.len(), 3);
     assert!(rt; steps.as_slice().iter().all(|step| !step.faulted));
     let mut left = cache.into_disk().crash(&[])?;
@@ -114,6 +115,7 @@ fn a_write_fails_inside_a_flush(rt: HostRuntime) -> Result<(), Fail> {
     assert_eq!(rt; first_of(alloc, &mut device, 37), Some(0xc1));
     assert!(rt; flush(alloc, &mut device).is_ok());
     let (steps, cache) = device.into_parts();
+    let steps = steps.into_list().ok_or("steps")?;
     assert_eq!(rt; steps.len(), 10);
     assert_eq!(rt;
         cache.into_disk().counts(),
@@ -159,6 +161,7 @@ fn a_device_behind_a_lock(rt: HostRuntime) -> Result<(), Fail> {
     assert_eq!(rt; blocks, 64);
     let device = run_pair(&rt, alloc, device, 25)?;
     let (steps, _cache) = device.into_parts();
+    let steps = steps.into_list().ok_or("steps")?;
     assert_eq!(rt; steps.len(), 800);
     assert_eq!(rt;
         steps

@@ -11,7 +11,7 @@ fn four_threads_share_a_pool(rt: HostRuntime) -> Result<(), Fail> {
         frames: 12,
         size,
         pages: 4,
-        rounds: 10_000,
+        rounds: 100_000,
     };
     let done = work_together(&rt, rt.alloc(), job);
     assert!(rt;

@@ -7,6 +7,7 @@ use Rattle.std.proofs.Crossing.{crosses}
 use Rattle.std.proofs.MapsCrossing.{crosses as maps}
 use Rattle.lru.proofs.Crosses.{List-send, Deed-send, KeyRef-send}
 use Rattle.host_model.specs.contracts.step.Step as step
+use Rattle.host_log.proofs.Crossing.{ghost_send}
 use Rattle.host_io.specs.declared.disk.Disk as disk
 use Rattle.host_cache.specs.contracts.cache.Cache as cache
 use Rattle.host_device.specs.contracts.device.Device as device
@@ -21,5 +22,5 @@ step_send = search (sendable, crosses) depth 30
 pub device_send : (D : RattleType) (g : disk.Ghosts D.Denot) → IsSend D → IsSend (device.the_row D g)
 device_send D g s =
     let T = device.the_type D g in
-    let all : AllSend (shape T).fields = (search sendable depth 20, (cache_field D g s, (search (sendable, crosses, step_send) depth 30, (search (sendable, crosses) depth 20, tt)))) in
+    let all : AllSend (shape T).fields = (search sendable depth 20, (cache_field D g s, (search (sendable, crosses, step_send, ghost_send) depth 40, (search (sendable, crosses) depth 20, tt)))) in
     recorded_send (Struct (shape T)) T.D T.to T.to_one (struct_send (shape T) all)

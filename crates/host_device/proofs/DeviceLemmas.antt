@@ -8,7 +8,7 @@ use Rattle.host_block.specs.declared.op.Op.TheVariants.{Flush}
 use Rattle.host_block.specs.Changes.{Change, is_flush}
 use Rattle.host_block.specs.Crash.{IsCrashImage, IsCurrent, Keeps}
 use Rattle.host_block.specs.Disk.{DiskState, block_at, IsCrashOf, IsImage, IsOfSize}
-use Rattle.host_block.specs.Room.{WithRoom}
+use Rattle.host_log.specs.Switch.{SwitchedLog}
 use Rattle.host_io.specs.Disks.{Shape}
 use Rattle.host_io.specs.declared.disk.Disk as disk
 use Rattle.host_cache.specs.Seen.{shape_of}
@@ -57,12 +57,12 @@ module _ {D : Type 0} {g : disk.Ghosts D} (of_size : (d : D) → IsTrue (g.shape
           crashes_along (image_of device) (history_of device) ran.runs.calls (g.state (cache_of device).disk) (g.state new.disk)
           (along (image_of device) (history_of device) op b given (cache_of device) new told blocks_are sized on told_of answer ran)
 
-      pub stepped : (steps : WithRoom Step) → steps ≡ record { items = device.steps.items ++ entries_added answer (entry_for owner op b given); room = device.steps.room }
+      pub stepped : (steps : SwitchedLog Step) → steps ≡ record { items = device.steps.items ++ entries_added answer (entry_for owner op b given); room = device.steps.room; kept = device.steps.kept }
           → AreGiven (changes_of (entries_added answer (entry_for owner op b given))) (cache_of device) → HasContentBy (changes_of (entries_added answer (entry_for owner op b given))) (cache_of device) new
           → Told (image_of device) (changes_of steps.items) new
       stepped steps entry gives content =
           let added = entries_added answer (entry_for owner op b given) in
-          let longer : changes_of steps.items ≡ history_of device ++ changes_of added = ap (λ (s : WithRoom Step). changes_of s.items) entry ∙ map-append change_of device.steps.items added in
+          let longer : changes_of steps.items ≡ history_of device ++ changes_of added = ap (λ (s : SwitchedLog Step). changes_of s.items) entry ∙ map-append change_of device.steps.items added in
           subst (λ (h : List Change). Told (image_of device) h new) (sym longer)
           (step_told (image_of device) (history_of device) op b given (cache_of device) new told blocks_are sized on told_of owner.hand owner.session owner.index owner.k answer ran gives content)
 

@@ -4,7 +4,7 @@ use Rattle.host_block.specs.declared.op.Op.{Op}
 use Rattle.host_block.specs.Changes.{Change, IsLegal}
 use Rattle.host_block.specs.Crash.{IsCrashImage, IsCurrent}
 use Rattle.host_block.specs.Disk.{block_at, IsImage, IsCrashOf}
-use Rattle.host_block.specs.Room.{WithRoom}
+use Rattle.host_log.specs.Switch.{SwitchedLog}
 use Rattle.host_io.specs.Disks.{Shape}
 use Rattle.host_io.specs.declared.disk.Disk as disk
 use Rattle.host_cache.specs.Seen.{content_of}
@@ -36,10 +36,10 @@ module _ {D : Type 0} {g : disk.Ghosts D} where
 
   -- what never changes of a device
   abbrev pub fixed_of : Device D g → DeviceFixed D
-  fixed_of device = record { blocks = (shape_of device).blocks; size = (shape_of device).size; opening = device.opening }
+  fixed_of device = record { blocks = (shape_of device).blocks; size = (shape_of device).size; opening = device.opening; keeps = device.steps.kept }
 
   -- the entries, oldest first, and how many there is room for in all
-  abbrev pub steps_of : Device D g → WithRoom Step
+  abbrev pub steps_of : Device D g → SwitchedLog Step
   steps_of device = device.steps
 
   -- the entries as changes of the image

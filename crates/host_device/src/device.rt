@@ -8,10 +8,11 @@ ghost use Rattle.host_model.specs.Changes.{changes_of};
 
 use crate::error::StepError;
 use crate::steps::{Owner, make_read, make_step};
-use host_block::{Oom, Op, ReservedList};
+use host_block::{Oom, Op};
 use host_cache::Cache;
 use host_io::Disk;
-use host_model::{SharedBytes, Steps};
+use host_log::SwitchLog;
+use host_model::{SharedBytes, Step};
 use std::alloc::Global;
 use std::snapshot::Snapshot;
 
@@ -26,7 +27,7 @@ pub struct NoDevice<D: Disk> {
 pub struct Device<D: Disk> {
     pub(crate) alloc: Global,
     pub(crate) cache: Cache<D>,
-    pub(crate) steps: Steps,
+    pub(crate) steps: SwitchLog<Step>,
     // The disk as `new` found it.
     pub(crate) opening: Snapshot<D>,
     ghost same_shape: { D.shape (disk_under cache) ≡ D.shape opening.value },
@@ -39,10 +40,10 @@ pub struct Device<D: Disk> {
 }
 
 impl<D: Disk> Device<D> {
-    ghost use Rattle.std.specs.Prelude.{[], ◌++◌, ◌<◌, ◌≤◌, false, length, None, OnOk, IfOk, IfErr, IsErrOf};
+    ghost use Rattle.std.specs.Prelude.{[], ◌++◌, ◌<◌, ◌≤◌, false, length, None, OnOk, OnErr, IfOk, IfErr, IsErrOf};
     ghost use Rattle.host_block.specs.declared.op.Op.TheVariants.{Flush, Read};
     ghost use Rattle.host_block.specs.Changes.{is_read};
-    ghost use Rattle.host_block.specs.Room.{spare_of};
+    ghost use Rattle.host_log.specs.Switch.{spare_of};
     ghost use Rattle.host_cache.specs.Seen.{held_of};
     ghost use Rattle.host_io.specs.Causes.{Rose};
     ghost use Rattle.host_turn.specs.History.{Adds};
@@ -50,16 +51,21 @@ impl<D: Disk> Device<D> {
     ghost use Rattle.host_device.specs.Seen.{cache_of, disk_of, shape_of, opening_of, fixed_of, steps_of, KeepsHistory, IsStep, LosesNothing};
 
     /// A device over an empty cache whose disk has nothing pending, with room for so many entries.
-    pub fn new(alloc: Global, cache: Cache<D>, room: u64) -> Result<Device<D>, NoDevice<D>>
+    pub fn new(
+        alloc: Global,
+        cache: Cache<D>,
+        room: u64,
+        keeps: bool,
+    ) -> Result<Device<D>, NoDevice<D>>
         requires empty { held_of cache ≡ record { lines = []; victim = None } }
         requires settled { IsTrue (D.shape (disk_under cache)).tells → (D.state (disk_under cache)).pending ≡ [] }
         ensures cache { IfOk result (λ device. cache_of device ≡ cache) }
         ensures opening { IfOk result (λ device. opening_of device ≡ disk_under cache) }
-        ensures steps { IfOk result (λ device. steps_of device ≡ record { items = []; room = room }) }
+        ensures steps { IfOk result (λ device. steps_of device ≡ record { items = []; room = room; kept = keeps }) }
         ensures refused { IfErr result (λ refused. refused.cache ≡ cache) }
     {
         let opening = Snapshot::of(cache.disk());
-        match ReservedList::with_room(alloc, room) {
+        match SwitchLog::with_room(alloc, room, keeps) {
             Ok(steps) => Ok(Device {
                 alloc,
                 cache,
@@ -86,14 +92,25 @@ impl<D: Disk> Device<D> {
         self.steps.spare()
     }
 
-    /// Makes room for one entry.
+    /// Whether the history is kept in memory.
+    pub fn is_kept(&self) -> bool
+        ensures { result ≡ (steps_of self.now).kept }
+    {
+        self.steps.is_kept()
+    }
+
+    /// Makes room for one entry. Where one fits already it takes no memory.
     pub fn make_room(&mut self) -> Result<(), Oom>
         ensures room { OnOk result (1 ≤ spare_of (steps_of self.new)) }
+        ensures full { OnErr result (spare_of (steps_of self.old) ≡ 0) }
         ensures more { spare_of (steps_of self.old) ≤ spare_of (steps_of self.new) }
         ensures entries { (steps_of self.new).items ≡ (steps_of self.old).items }
         ensures cache { cache_of self.new ≡ cache_of self.old }
         ensures fixed { fixed_of self.new ≡ fixed_of self.old }
     {
+        if self.steps.spare() > 0 {
+            return Ok(());
+        }
         self.steps.reserve(1)
     }
 
@@ -162,7 +179,7 @@ impl<D: Disk> Device<D> {
     }
 
     /// The history, and the cache over the disk as it is.
-    pub fn into_parts(self) -> (Steps, Cache<D>)
+    pub fn into_parts(self) -> (SwitchLog<Step>, Cache<D>)
         ensures steps { result.0 ≡ steps_of self }
         ensures cache { result.1 ≡ cache_of self }
     {

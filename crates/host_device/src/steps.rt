@@ -14,7 +14,8 @@ use crate::error::StepError;
 use host_block::{Oom, Op};
 use host_cache::Cache;
 use host_io::Disk;
-use host_model::{SharedBytes, Step, Steps};
+use host_log::SwitchLog;
+use host_model::{SharedBytes, Step};
 use std::alloc::Global;
 
 /// For whom a step is made.
@@ -29,7 +30,7 @@ pub struct Owner {
 /// Makes the call of the cache that the op names, no read, and enters it.
 pub fn make_step<D: Disk>(
     cache: &mut Cache<D>,
-    steps: &mut Steps,
+    steps: &mut SwitchLog<Step>,
     owner: Owner,
     op: Op,
     b: u64,
@@ -56,7 +57,7 @@ pub fn make_step<D: Disk>(
 pub fn make_read<D: Disk>(
     alloc: Global,
     cache: &mut Cache<D>,
-    steps: &mut Steps,
+    steps: &mut SwitchLog<Step>,
     owner: Owner,
     b: u64,
     into: &mut [u8],
@@ -94,7 +95,13 @@ fn with_bytes(answer: Result<(), StepError>, bytes: SharedBytes) -> Result<Share
 }
 
 // Enters a step, and answers whether it failed.
-fn enter(steps: &mut Steps, owner: Owner, op: Op, b: u64, stored: Stored) -> Result<(), StepError>
+fn enter(
+    steps: &mut SwitchLog<Step>,
+    owner: Owner,
+    op: Op,
+    b: u64,
+    stored: Stored,
+) -> Result<(), StepError>
     requires { length steps.old.items < steps.old.room }
     ensures entry { steps.new ≡ record steps.old { items = steps.old.items ++ step_by owner op b stored ∷ [] } }
     ensures answer { result ≡ answered stored.faulted }

@@ -1,5 +1,5 @@
 -- What is true of a new intake.
-use Rattle.std.proofs.Common.{◌≡◌, ℕ, zero, suc, ◌+◌, ◌≤◌, ◌<◌, ◌==◌, List, [], length, map, Some, None, refl, sym, ap, ◌∙◌, arith, eq-eqb}
+use Rattle.std.proofs.Common.{◌≡◌, ℕ, zero, suc, ◌+◌, ◌≤◌, ◌<◌, ◌==◌, Bool, List, [], length, map, Some, None, refl, sym, ap, ◌∙◌, arith, eq-eqb}
 use Rattle.std.specs.Prelude.{slice_get}
 use Rattle.host_block.specs.declared.range.Range.{Range}
 use Rattle.host_group.specs.declared.seat.CellSeat.{CellSeat}
@@ -17,11 +17,11 @@ none_at : {A : Type 0} (n : ℕ) (x : A) → slice_get [] n ≡ Some x → ⊥
 none_at zero x e = cc
 none_at (suc n) x e = cc
 
-pub intake_new : (part : Range) (size room : ℕ) (taker : TakerState) (seat : MemorySeat) (q : CellSeat) → room < 4294967296 → taker.taken ≡ [] → taker.records ≤ room
+pub intake_new : (part : Range) (size room : ℕ) (keeps : Bool) (taker : TakerState) (seat : MemorySeat) (q : CellSeat) → room < 4294967296 → taker.taken ≡ [] → taker.records ≤ room
     → IsOutside seat → IsForAdmissions room seat → entries_of hand_of (number seat) (seen_by seat) ≡ []
     → IsAdmittingOf (seat_cells q) q → admitted q ≡ [] → back q ≡ [] → next q ≡ 0
-    → IsIntake (record { part = part; size = size; room = room; entries = []; held = None; waiting = []; taker = taker; memory_seat = seat; cell_seat = q })
-intake_new part size room taker seat q fits taken few outside admits none resting no_members no_rows first = record {
+    → IsIntake (record { part = part; size = size; room = room; keeps = keeps; entries = []; held = None; waiting = []; taker = taker; memory_seat = seat; cell_seat = q })
+intake_new part size room keeps taker seat q fits taken few outside admits none resting no_members no_rows first = record {
   popped = record {
     taken = refl;
     left = λ a. taken;

@@ -22,7 +22,7 @@ use Rattle.host_intake.specs.declared.entry.Phase.TheVariants.{Running, Draining
 use Rattle.host_intake.specs.declared.entry.RecordEnd.{RecordEnd}
 use Rattle.host_intake.specs.Entries.{Taking, Landing, taking_of, landing_of, takings, landings, is_landing_of, place_of}
 use Rattle.host_intake.specs.Ledgers.{IsLedger, is_before, is_course, is_last_turn, is_shut, slips_to_keep, is_taken_open}
-use Rattle.host_intake.specs.Told.{is_open, turn_of, turns, kept_by, is_passed, is_flying, kept_slips, phase_in, was_aborted, is_aborted, is_ending, row_in, outcome_in, seen_of}
+use Rattle.host_intake.specs.Told.{is_open, turn_of, turns, kept_by, is_passed, is_flying, kept_slips, phase_in, was_aborted, is_aborted, is_ending, row_in, rows_in, outcome_in, seen_of}
 use Rattle.host_intake.proofs.Counting.{but_for, count_cut, count_agree}
 use Rattle.host_intake.proofs.Pushing.{kept_few, open_landed}
 use Rattle.host_intake.proofs.Ledgering.{and_left, and_right, course_few, find_none, phase_from, room_for}
@@ -123,7 +123,7 @@ kept_more phase flag answer = one (flag && not (is_aborted phase)) answer
     one true (Some x) = omega arith
     one false o = omega arith
 
-module _ (room : ℕ) (l : WithRoom IntakeEntry) (phase : Phase) (flights : ℕ) (kept : List Slip) (front : ℕ) (rows : List TakenRow) (k : IsLedger room l phase flights kept front rows) where
+module _ (room : ℕ) (l : WithRoom IntakeEntry) (phase : Phase) (flights : ℕ) (kept : List Slip) (front : ℕ) (k : IsLedger room l phase flights kept front) where
   module _ (i : ℕ) (flying : is_flying i l.items ≡ true) where
     pub is_taken : i < length (takings l.items)
     is_taken = ltb-true i (length (takings l.items)) (and_left (nat_lt i (length (takings l.items))) (is_open (landings l.items) i) flying)
@@ -151,16 +151,16 @@ module _ (room : ℕ) (l : WithRoom IntakeEntry) (phase : Phase) (flights : ℕ)
     pub room_landed : length l.items < l.room
     room_landed =
         let few = k.few in let o = k.once in let c = open_cut in let p = k.passed in let q = kept_few l.items in let t = course_few (turns l.items) k.course in
-        room_for room l phase flights kept front rows k (omega arith)
+        room_for room l phase flights kept front k (omega arith)
 
     -- there is room for one answer more
     pub kept_room : length kept < 64
     kept_room = let s = some_flight in let m = k.limit in omega arith
 
     -- record i ended
-    pub ledger_landed : (hand : ℕ) (end : RecordEnd) (answer : Option Slip) (flag : Bool) (x : TakenRow) → x ≡ get_or rows i x
-        → IsLedger room (record l { items = l.items ++ Landed hand i end answer flag ∷ [] }) phase (flights - 1) (kept ++ slips_to_keep phase flag answer) front (set rows i (record x { outcome = end.outcome }))
-    ledger_landed hand end answer flag x is =
+    pub ledger_landed : (hand : ℕ) (end : RecordEnd) (answer : Option Slip) (flag : Bool)
+        → IsLedger room (record l { items = l.items ++ Landed hand i end answer flag ∷ [] }) phase (flights - 1) (kept ++ slips_to_keep phase flag answer) front
+    ledger_landed hand end answer flag =
         let es = l.items in let e = Landed hand i end answer flag in
         let m : Landing = record { hand = hand; index = i; end = end; answer = answer; kept = flag } in
         let ts : takings (es ++ e ∷ []) ≡ takings es = filter_map_skip taking_of es e refl in
@@ -178,7 +178,6 @@ module _ (room : ℕ) (l : WithRoom IntakeEntry) (phase : Phase) (flights : ℕ)
         let answers : length (filter_map kept_by es) ≤ length (filter_map kept_by (es ++ e ∷ [])) =
         let a = ap length (answers_pushed es hand i end answer flag) ∙ length-append (filter_map kept_by es) (cond flag (option_to_list answer) []) in omega arith in
         let p = k.passed in
-        let at : x ≡ get_or (map (row_in (landings es)) (takings es)) i x = is ∙ ap (λ (z : List TakenRow). get_or z i x) k.rows_are in
         record {
           has_room = k.has_room;
           few = subst (λ (z : List Taking). length z ≤ room) (sym ts) k.few;
@@ -197,7 +196,16 @@ module _ (room : ℕ) (l : WithRoom IntakeEntry) (phase : Phase) (flights : ℕ)
           kept_are = slips;
           limit = omega arith;
           front_is = subst (λ (z : List Taking). front ≡ greatest (map seen_of z)) (sym ts) k.front_is;
-          rows_are = ap (λ (z : List TakenRow). set z i (record x { outcome = end.outcome })) k.rows_are
-              ∙ (sym (rows_set (landings es) m not_ended (takings es) 0 i k.indexes is_taken (sym_zero i) x at)
-              ∙ (ap (λ (z : List Landing). map (row_in z) (takings es)) (sym ls) ∙ ap (λ (z : List Taking). map (row_in (landings (es ++ e ∷ []))) z) (sym ts)));
         }
+
+    -- its row has its outcome
+    pub rows_landed : (hand : ℕ) (end : RecordEnd) (answer : Option Slip) (flag : Bool) (x : TakenRow) → x ≡ get_or (rows_in l.items) i x
+        → rows_in (l.items ++ Landed hand i end answer flag ∷ []) ≡ set (rows_in l.items) i (record x { outcome = end.outcome })
+    rows_landed hand end answer flag x at =
+        let es = l.items in let e = Landed hand i end answer flag in
+        let m : Landing = record { hand = hand; index = i; end = end; answer = answer; kept = flag } in
+        let ts : takings (es ++ e ∷ []) ≡ takings es = filter_map_skip taking_of es e refl in
+        let ls : landings (es ++ e ∷ []) ≡ landings es ++ m ∷ [] = filter_map_add landing_of es e m refl in
+        ap (λ (z : List Taking). map (row_in (landings (es ++ e ∷ []))) z) ts
+        ∙ (ap (λ (z : List Landing). map (row_in z) (takings es)) ls
+        ∙ rows_set (landings es) m not_ended (takings es) 0 i k.indexes is_taken (sym_zero i) x at)

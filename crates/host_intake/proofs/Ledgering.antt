@@ -21,7 +21,7 @@ use Rattle.host_intake.specs.declared.entry.Phase.{Phase}
 use Rattle.host_intake.specs.declared.entry.Phase.TheVariants.{Running, Draining, Aborted, Closed}
 use Rattle.host_intake.specs.Entries.{Taking, Landing, taking_of, landing_of, takings, landings, is_landing_of, place_of}
 use Rattle.host_intake.specs.Ledgers.{IsLedger, is_before, is_course, is_last_turn, is_shut, is_taken_open}
-use Rattle.host_intake.specs.Told.{is_open, flights_in, turn_of, turns, kept_by, is_passed, kept_slips, phase_in, was_aborted, is_aborted, seen_of, row_in, is_ending}
+use Rattle.host_intake.specs.Told.{is_open, flights_in, turn_of, turns, kept_by, is_passed, kept_slips, phase_in, was_aborted, is_aborted, seen_of, row_in, rows_in, is_ending}
 use Rattle.host_intake.proofs.Counting.{count_more, below_more}
 use Rattle.host_intake.proofs.Pushing.{parts_of, kept_few}
 
@@ -89,14 +89,14 @@ pub phase_from : (es fs : List IntakeEntry) → turns fs ≡ turns es → phase_
 phase_from es fs t = ap (λ a. last Running a) t
 
 -- what is kept, under other names
-pub kept_as : (room : ℕ) (l m : WithRoom IntakeEntry) (phase : Phase) (flights : ℕ) (kept slips : List Slip) (front top : ℕ) (rows all : List TakenRow) → m ≡ l → slips ≡ kept → top ≡ front → all ≡ rows
-    → IsLedger room l phase flights kept front rows → IsLedger room m phase flights slips top all
-kept_as room l m phase flights kept slips front top rows all el ek ef er k =
-    subst (λ (z : WithRoom IntakeEntry). IsLedger room z phase flights slips top all) (sym el)
-    (subst (λ (z : List Slip). IsLedger room l phase flights z top all) (sym ek)
-    (subst (λ (z : ℕ). IsLedger room l phase flights kept z all) (sym ef) (subst (λ (z : List TakenRow). IsLedger room l phase flights kept front z) (sym er) k)))
+pub kept_as : (room : ℕ) (l m : WithRoom IntakeEntry) (phase : Phase) (flights : ℕ) (kept slips : List Slip) (front top : ℕ) → m ≡ l → slips ≡ kept → top ≡ front
+    → IsLedger room l phase flights kept front → IsLedger room m phase flights slips top
+kept_as room l m phase flights kept slips front top el ek ef k =
+    subst (λ (z : WithRoom IntakeEntry). IsLedger room z phase flights slips top) (sym el)
+    (subst (λ (z : List Slip). IsLedger room l phase flights z top) (sym ek)
+    (subst (λ (z : ℕ). IsLedger room l phase flights kept z) (sym ef) k))
 
-module _ (room : ℕ) (l : WithRoom IntakeEntry) (phase : Phase) (flights : ℕ) (kept : List Slip) (front : ℕ) (rows : List TakenRow) (k : IsLedger room l phase flights kept front rows) where
+module _ (room : ℕ) (l : WithRoom IntakeEntry) (phase : Phase) (flights : ℕ) (kept : List Slip) (front : ℕ) (k : IsLedger room l phase flights kept front) where
   -- as long as what is still to come may come, there is room for one entry
   pub room_for : length (takings l.items) + length (landings l.items) + count is_passed l.items + length (turns l.items) < 3 * room + 2 → length l.items < l.room
   room_for h = let p = parts_of l.items in let r = k.has_room in omega arith
@@ -121,7 +121,7 @@ module _ (room : ℕ) (l : WithRoom IntakeEntry) (phase : Phase) (flights : ℕ)
 
   -- the next record was taken
   pub ledger_took : (hand : ℕ) (e : Envelope) (v : Verdict) (waits : Bool) (seen : ℕ) → e.index ≡ length (takings l.items) → length (takings l.items) < room → flights + length kept < 64 → (phase_in l.items ≡ Closed → ⊥)
-      → IsLedger room (record l { items = l.items ++ Took hand e v waits seen ∷ [] }) phase (flights + 1) kept (max front seen) (rows ++ record { verdict = v; outcome = status.Ok } ∷ [])
+      → IsLedger room (record l { items = l.items ++ Took hand e v waits seen ∷ [] }) phase (flights + 1) kept (max front seen)
   ledger_took hand e v waits seen next few limit unshut =
       let es = l.items in let x = Took hand e v waits seen in
       let t : Taking = record { hand = hand; envelope = e; verdict = v; waits = waits; seen = seen } in
@@ -151,7 +151,17 @@ module _ (room : ℕ) (l : WithRoom IntakeEntry) (phase : Phase) (flights : ℕ)
         kept_are = k.kept_are ∙ sym (kept_from es (es ++ x ∷ []) ps passed slips);
         limit = omega arith;
         front_is = ap (λ z. max z seen) k.front_is ∙ (sym (greatest_snoc (map seen_of (takings es)) seen) ∙ (ap greatest (sym (map-append seen_of (takings es) (t ∷ []))) ∙ ap (λ (z : List Taking). greatest (map seen_of z)) (sym ts)));
-        rows_are = ap (λ z. z ++ record { verdict = v; outcome = status.Ok } ∷ []) k.rows_are
-            ∙ (sym (took_rows (landings es) (takings es) t (subst (λ (i : ℕ). list_any (is_landing_of i) (landings es) ≡ false) (sym next) unended))
-            ∙ (ap (λ (z : List Taking). map (row_in (landings es)) z) (sym ts) ∙ ap (λ (z : List Landing). map (row_in z) (takings (es ++ x ∷ []))) (sym ls)));
       }
+
+  -- its row is added
+  pub rows_took : (hand : ℕ) (e : Envelope) (v : Verdict) (waits : Bool) (seen : ℕ) → e.index ≡ length (takings l.items)
+      → rows_in (l.items ++ Took hand e v waits seen ∷ []) ≡ rows_in l.items ++ record { verdict = v; outcome = status.Ok } ∷ []
+  rows_took hand e v waits seen next =
+      let es = l.items in let x = Took hand e v waits seen in
+      let t : Taking = record { hand = hand; envelope = e; verdict = v; waits = waits; seen = seen } in
+      let ts : takings (es ++ x ∷ []) ≡ takings es ++ t ∷ [] = filter_map_add taking_of es x t refl in
+      let ls : landings (es ++ x ∷ []) ≡ landings es = filter_map_skip landing_of es x refl in
+      let unended : list_any (is_landing_of (length (takings es))) (landings es) ≡ false = none_ended (length (takings es)) (landings es) k.within in
+      ap (λ (z : List Landing). map (row_in z) (takings (es ++ x ∷ []))) ls
+      ∙ (ap (λ (z : List Taking). map (row_in (landings es)) z) ts
+      ∙ took_rows (landings es) (takings es) t (subst (λ (i : ℕ). list_any (is_landing_of i) (landings es) ≡ false) (sym next) unended))

@@ -22,6 +22,7 @@ pub mod Popping
 pub mod Pushing
 pub mod Readiness
 pub mod Removing
+pub mod RowsKept
 pub mod Stalling
 pub mod TakeHeld
 pub mod Turning

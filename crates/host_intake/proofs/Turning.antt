@@ -27,15 +27,15 @@ pub pass_step : (aborted : Bool) (p : ℕ) (ks : List Slip) → 0 < length (cond
 pass_step true p ks h = absurd (omega arith)
 pass_step false p ks h = let n = length-drop p ks in (omega arith, sym (drop-drop 1 p ks))
 
-module _ (room : ℕ) (l : WithRoom IntakeEntry) (phase : Phase) (flights : ℕ) (kept : List Slip) (front : ℕ) (rows : List TakenRow) (k : IsLedger room l phase flights kept front rows) where
+module _ (room : ℕ) (l : WithRoom IntakeEntry) (phase : Phase) (flights : ℕ) (kept : List Slip) (front : ℕ) (k : IsLedger room l phase flights kept front) where
   module _ (some : 0 < length (kept_slips l.items)) where
     pub room_passed : length l.items < l.room
     room_passed =
         let p = (pass_step (was_aborted l.items) (count is_passed l.items) (filter_map kept_by l.items) some).0 in
-        let few = k.few in let e = ended_few room l phase flights kept front rows k in let q = kept_few l.items in let t = course_few (turns l.items) k.course in
-        room_for room l phase flights kept front rows k (omega arith)
+        let few = k.few in let e = ended_few room l phase flights kept front k in let q = kept_few l.items in let t = course_few (turns l.items) k.course in
+        room_for room l phase flights kept front k (omega arith)
 
-    pub ledger_passed : (hand : ℕ) → IsLedger room (record l { items = l.items ++ Passed hand ∷ [] }) phase flights (drop 1 kept) front rows
+    pub ledger_passed : (hand : ℕ) → IsLedger room (record l { items = l.items ++ Passed hand ∷ [] }) phase flights (drop 1 kept) front
     ledger_passed hand =
         let es = l.items in let e = Passed hand in
         let ts : takings (es ++ e ∷ []) ≡ takings es = filter_map_skip taking_of es e refl in
@@ -66,7 +66,6 @@ module _ (room : ℕ) (l : WithRoom IntakeEntry) (phase : Phase) (flights : ℕ)
               ∙ ap (λ (a : List Phase). cond (list_any is_aborted a) [] (drop (count is_passed (es ++ e ∷ [])) (filter_map kept_by (es ++ e ∷ [])))) (sym ps))));
           limit = omega arith;
           front_is = subst (λ (z : List Taking). front ≡ greatest (map seen_of z)) (sym ts) k.front_is;
-          rows_are = k.rows_are ∙ (ap (λ (z : List Landing). map (row_in z) (takings es)) (sym ls) ∙ ap (λ (z : List Taking). map (row_in (landings (es ++ e ∷ []))) z) (sym ts));
         }
 
   -- ---- the session was turned
@@ -75,12 +74,12 @@ module _ (room : ℕ) (l : WithRoom IntakeEntry) (phase : Phase) (flights : ℕ)
     pub room_turned : length l.items < l.room
     room_turned =
         let q = kept_few l.items in let t = course_few (turns l.items ++ p ∷ []) course in let n = length-append (turns l.items) (p ∷ []) in
-        let few = k.few in let e = ended_few room l phase flights kept front rows k in let s = k.passed in
-        room_for room l phase flights kept front rows k (omega arith)
+        let few = k.few in let e = ended_few room l phase flights kept front k in let s = k.passed in
+        room_for room l phase flights kept front k (omega arith)
 
     pub ledger_turned : (hand : ℕ) (slips : List Slip) → (p ≡ Closed → flights ≡ 0) → length slips ≤ length kept
         → slips ≡ cond (list_any is_aborted (turns l.items ++ p ∷ [])) [] (drop (count is_passed l.items) (filter_map kept_by l.items))
-        → IsLedger room (record l { items = l.items ++ Turned hand p ∷ [] }) p flights slips front rows
+        → IsLedger room (record l { items = l.items ++ Turned hand p ∷ [] }) p flights slips front
     ledger_turned hand slips shut fewer are =
         let es = l.items in let e = Turned hand p in
         let ts : takings (es ++ e ∷ []) ≡ takings es = filter_map_skip taking_of es e refl in
@@ -108,7 +107,6 @@ module _ (room : ℕ) (l : WithRoom IntakeEntry) (phase : Phase) (flights : ℕ)
               ∙ (ap (λ n. cond (was_aborted (es ++ e ∷ [])) [] (drop n (filter_map kept_by es))) (sym passed) ∙ ap (λ z. cond (was_aborted (es ++ e ∷ [])) [] (drop (count is_passed (es ++ e ∷ [])) z)) (sym answers)));
           limit = omega arith;
           front_is = subst (λ (z : List Taking). front ≡ greatest (map seen_of z)) (sym ts) k.front_is;
-          rows_are = k.rows_are ∙ (ap (λ (z : List Landing). map (row_in z) (takings es)) (sym ls) ∙ ap (λ (z : List Taking). map (row_in (landings (es ++ e ∷ []))) z) (sym ts));
         }
 
     pub or_off : (b c : Bool) → c ≡ false → (b || (c || false)) ≡ b
@@ -120,14 +118,14 @@ module _ (room : ℕ) (l : WithRoom IntakeEntry) (phase : Phase) (flights : ℕ)
     or_on false c e = ap (λ z. z || false) e
 
     -- it was turned to another phase than aborted
-    pub ledger_goes_on : (hand : ℕ) → (p ≡ Closed → flights_in l.items ≡ 0) → is_aborted p ≡ false → IsLedger room (record l { items = l.items ++ Turned hand p ∷ [] }) p flights kept front rows
+    pub ledger_goes_on : (hand : ℕ) → (p ≡ Closed → flights_in l.items ≡ 0) → is_aborted p ≡ false → IsLedger room (record l { items = l.items ++ Turned hand p ∷ [] }) p flights kept front
     ledger_goes_on hand shut other =
         let f = k.flights_are in
         ledger_turned hand kept (λ c. let z = shut c in omega arith) (omega arith)
         (k.kept_are ∙ ap (λ b. cond b [] (drop (count is_passed l.items) (filter_map kept_by l.items))) (sym (list_any-append is_aborted (turns l.items) (p ∷ []) ∙ or_off (was_aborted l.items) (is_aborted p) other)))
 
     -- it was aborted
-    pub ledger_aborted : (hand : ℕ) → (p ≡ Closed → ⊥) → is_aborted p ≡ true → IsLedger room (record l { items = l.items ++ Turned hand p ∷ [] }) p flights [] front rows
+    pub ledger_aborted : (hand : ℕ) → (p ≡ Closed → ⊥) → is_aborted p ≡ true → IsLedger room (record l { items = l.items ++ Turned hand p ∷ [] }) p flights [] front
     ledger_aborted hand other aborts =
         ledger_turned hand [] (λ c. absurd (other c)) (omega arith)
         (ap (λ b. cond b [] (drop (count is_passed l.items) (filter_map kept_by l.items))) (sym (list_any-append is_aborted (turns l.items) (p ∷ []) ∙ or_on (was_aborted l.items) (is_aborted p) aborts)))

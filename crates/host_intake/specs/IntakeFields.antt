@@ -9,6 +9,7 @@ intake_state a = record {
   part = a.part;
   size = a.size;
   room = a.ledger.room;
+  keeps = a.ledger.keeps;
   entries = a.ledger.entries;
   held = a.held;
   waiting = a.waiting.items;

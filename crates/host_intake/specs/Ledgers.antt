@@ -12,9 +12,10 @@ use Rattle.host_intake.specs.declared.entry.Phase.TheVariants.{Closed}
 use Rattle.host_intake.specs.Entries.{Landing, takings, landings, place_of}
 use Rattle.host_intake.specs.Told.{is_aborted, is_open, phase_in, turns, is_ending, kept_by, kept_slips, is_passed, memory_front_in, rows_in}
 
--- a ledger, as contracts see it: for how many records it has room, and the history
+-- a ledger, as contracts see it: for how many records it has room, whether their rows are kept, and the history
 pub record LedgerState : Type 0 where
   pub room : ℕ
+  pub keeps : Bool
   pub entries : List IntakeEntry
 
 abbrev pub is_shut : Phase → Bool
@@ -45,7 +46,7 @@ abbrev pub is_before : ℕ → Landing → Bool
 is_before n l = nat_lt l.index n
 
 -- what is kept is what the history tells, and there is room for all entries that may come
-pub record IsLedger (room : ℕ) (l : WithRoom IntakeEntry) (phase : Phase) (flights : ℕ) (kept : List Slip) (front : ℕ) (rows : List TakenRow) : Type 0 where
+pub record IsLedger (room : ℕ) (l : WithRoom IntakeEntry) (phase : Phase) (flights : ℕ) (kept : List Slip) (front : ℕ) : Type 0 where
   pub has_room : 3 * room + 2 ≤ l.room
   pub few : length (takings l.items) ≤ room
   pub indexes : map place_of (takings l.items) ≡ below (length (takings l.items))
@@ -60,4 +61,3 @@ pub record IsLedger (room : ℕ) (l : WithRoom IntakeEntry) (phase : Phase) (fli
   pub kept_are : kept ≡ kept_slips l.items
   pub limit : flights + length kept ≤ 64
   pub front_is : front ≡ memory_front_in l.items
-  pub rows_are : rows ≡ rows_in l.items

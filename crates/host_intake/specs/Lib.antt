@@ -9,6 +9,7 @@ pub mod Members
 pub mod Rights
 pub mod State
 pub mod Takings
+pub mod Rows
 pub mod Told
 pub mod Touching
 pub mod Waits

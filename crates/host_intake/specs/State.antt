@@ -1,5 +1,5 @@
 -- What contracts see of an intake.
-use Rattle.std.specs.Prelude.{◌≡◌, ℕ, ◌+◌, ◌≤◌, List, Option, MatchOption}
+use Rattle.std.specs.Prelude.{◌≡◌, ℕ, ◌+◌, ◌≤◌, Bool, List, Option, MatchOption}
 use Rattle.host_block.specs.declared.range.Range.{Range}
 use Rattle.host_group.specs.declared.seat.CellSeat.{CellSeat}
 use Rattle.host_group.specs.Seats.{seat_cells}
@@ -19,10 +19,11 @@ abbrev pub MemorySeat : Type 0
 MemorySeat = BookSeat MemoryState MemEntry MemoryPlan
 
 pub record IntakeState : Type 0 where
-  -- the partition, the bytes of a block, and for how many records everything is reserved
+  -- the partition, the bytes of a block, for how many records everything is reserved, and whether their rows are kept
   pub part : Range
   pub size : ℕ
   pub room : ℕ
+  pub keeps : Bool
   -- what was done, and by whom, the oldest first
   pub entries : List IntakeEntry
   -- the record that was popped and is not yet taken
@@ -40,6 +41,7 @@ plan_of s = record {
   part = s.part;
   size = s.size;
   room = s.room;
+  keeps = s.keeps;
   admissions = number s.memory_seat;
   ring = s.taker.ring;
   memory = seat_book s.memory_seat;

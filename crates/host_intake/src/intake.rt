@@ -66,12 +66,13 @@ impl Story for Intake {
 }
 
 impl Intake {
-    /// An intake that has taken nothing, for at most `room` records. It has `Oom` for an answer only for want of memory.
+    /// An intake that has taken nothing, for at most `room` records, whose rows are kept or not. It has `Oom` for an answer only for want of memory.
     pub fn new(
         alloc: Global,
         part: Range,
         size: BlockSize,
         room: u32,
+        keeps: bool,
         taker: Taker,
         memory_seat: BookSeat<Memory>,
         cell_seat: CellSeat,
@@ -83,6 +84,7 @@ impl Intake {
           part = part;
           size = size;
           room = room;
+          keeps = keeps;
           entries = [];
           held = None;
           waiting = [];
@@ -91,7 +93,7 @@ impl Intake {
           cell_seat = cell_seat;
         }) }
     {
-        let ledger = Ledger::new(alloc, room)?;
+        let ledger = Ledger::new(alloc, room, keeps)?;
         let Ok(waiting) = Vec::with_capacity(alloc, LIMIT as usize) else {
             return Err(Oom);
         };
@@ -153,6 +155,7 @@ impl Intake {
     pub fn into_parts(self) -> IntakeParts
         requires { phase_in self.entries ≡ Closed }
         ensures rows { result.rows.items ≡ rows_in self.entries }
+        ensures kept { result.rows.kept ≡ self.keeps }
         ensures taker { result.taker ≡ self.taker }
         ensures memory_seat { result.memory_seat ≡ self.memory_seat }
         ensures cell_seat { result.cell_seat ≡ self.cell_seat }

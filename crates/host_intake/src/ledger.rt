@@ -1,5 +1,5 @@
 //! The history of an intake, with what it tells kept beside it.
-ghost use Rattle.std.specs.Prelude.{◌≡◌, ◌+◌, ◌<◌, ◌≤◌, [], ◌∷◌, ◌++◌, true, false, length, slice_get, IfOk, IsTrue};
+ghost use Rattle.std.specs.Prelude.{◌≡◌, ◌+◌, ◌<◌, ◌≤◌, [], ◌∷◌, ◌++◌, true, false, if◌then◌else◌, length, slice_get, is_some, None, Some, IfOk, IfSome, IsTrue};
 ghost use Rattle.std.specs.VecDeque.{deque_capacity, deque_len};
 ghost use Rattle.host_intake.specs.declared.entry.IntakeEntry.TheVariants.{Took, Landed, Passed, Turned};
 ghost use Rattle.host_intake.specs.declared.entry.Phase.TheVariants.{Aborted, Closed};
@@ -9,8 +9,10 @@ ghost use Rattle.host_model.specs.Lists.{all_with_before};
 ghost use Rattle.host_intake.specs.Told.{is_aborted, phase_in, turns, flights_in, kept_slips, is_flying, memory_front_in, rows_in};
 
 use crate::entry::{IntakeEntry, Phase, RecordEnd};
-use host_block::{Oom, ReservedList};
-use host_model::{TakenRow, TakenRows, Verdict};
+use crate::rows::{Rows, push_row, settle_row};
+use host_block::Oom;
+use host_log::{GhostLog, Listing, SwitchLog};
+use host_model::{TakenRow, Verdict};
 use host_record::Status;
 use host_rings::{Envelope, Slip};
 use std::alloc::Global;
@@ -20,45 +22,42 @@ use std::marker::Model;
 /// As many records may be in flight, or answers kept, at once.
 pub(crate) const LIMIT: u32 = 64;
 
-/// The history, the phase, the number of records in flight, the answers kept, and the rows.
+/// The history, the phase, the numbers of records in flight and taken, the answers kept, and the rows where they are kept.
 #[derive(Drop)]
 pub(crate) struct Ledger {
     room: u32,
-    entries: ReservedList<IntakeEntry>,
+    entries: GhostLog<IntakeEntry>,
     phase: Phase,
     flights: u32,
     kept: VecDeque<Slip>,
     memory_front: u64,
-    rows: Vec<TakenRow>,
-    // Room for the rows at the end, since rows that are given away can't be written in place.
-    ending: TakenRows,
+    taken: u32,
+    rows: Option<Rows>,
 }
 
 impl Model for Ledger {
-    ghost use Rattle.std.specs.Prelude.{◌≡◌, ◌<◌, ◌≤◌, [], vec_capacity};
+    ghost use Rattle.std.specs.Prelude.{◌<◌, ◌≤◌, is_some};
     ghost use Rattle.std.specs.VecDeque.{deque_capacity};
     ghost use Rattle.host_intake.specs.Ledgers.{LedgerState, IsLedger};
+    ghost use Rattle.host_intake.specs.Rows.{AreRows};
 
     ghost Value = { LedgerState };
 
-    ghost view = { λ a. record { room = a.room; entries = a.entries.items } };
+    ghost view = { λ a. record { room = a.room; keeps = is_some a.rows; entries = a.entries.items } };
 
-    ghost invariant = { λ a. IsLedger a.room a.entries a.phase a.flights a.kept.items a.memory_front a.rows.items × (a.room ≤ vec_capacity a.rows) × (64 ≤ deque_capacity a.kept) × (a.ending.items ≡ []) × (a.room ≤ a.ending.room) × (a.room < 4294967296) };
+    ghost invariant = { λ a. IsLedger a.room a.entries a.phase a.flights a.kept.items a.memory_front × AreRows a.room a.entries.items a.taken a.rows × (64 ≤ deque_capacity a.kept) × (a.room < 4294967296) };
 }
 
 impl Ledger {
-    /// An empty history, with room for so many records.
-    pub(crate) fn new(alloc: Global, room: u32) -> Result<Ledger, Oom>
-        ensures { IfOk result (λ a. a ≡ record { room = room; entries = [] }) }
+    /// An empty history, with room for so many records, whose rows are kept or not.
+    pub(crate) fn new(alloc: Global, room: u32, keeps: bool) -> Result<Ledger, Oom>
+        ensures { IfOk result (λ a. a ≡ record { room = room; keeps = keeps; entries = [] }) }
     {
-        let entries = ReservedList::with_room(alloc, 3 * room as u64 + 2)?;
+        let entries = GhostLog::with_room(3 * room as u64 + 2);
         let Ok(kept) = VecDeque::with_capacity(alloc, LIMIT as usize) else {
             return Err(Oom);
         };
-        let Ok(rows) = Vec::with_capacity(alloc, room as usize) else {
-            return Err(Oom);
-        };
-        let ending = TakenRows::with_room(alloc, room as u64)?;
+        let rows = new_rows(alloc, room, keeps)?;
         Ok(Ledger {
             room,
             entries,
@@ -66,8 +65,8 @@ impl Ledger {
             flights: 0,
             kept,
             memory_front: 0,
+            taken: 0,
             rows,
-            ending,
         })
     }
 
@@ -86,7 +85,7 @@ impl Ledger {
     pub(crate) fn taken(&self) -> u32
         ensures { result ≡ length (takings self.now.entries) }
     {
-        self.rows.len() as u32
+        self.taken
     }
 
     pub(crate) fn flights(&self) -> u32
@@ -139,10 +138,12 @@ impl Ledger {
     {
         self.flights += 1;
         self.memory_front = self.memory_front.max(seen);
-        self.rows.push_reserved(TakenRow {
+        self.taken += 1;
+        let row = TakenRow {
             verdict,
             outcome: Status::Ok,
-        });
+        };
+        push_row(&mut self.rows, row);
         self.entries.push(IntakeEntry::Took {
             hand,
             envelope,
@@ -166,7 +167,7 @@ impl Ledger {
         ensures limit { flights_in self.new.entries + length (kept_slips self.new.entries) ≤ 64 }
     {
         self.flights -= 1;
-        self.rows[index as usize].outcome = end.outcome;
+        settle_row(&mut self.rows, index, end.outcome);
         keep(&mut self.kept, self.phase, kept, answer);
         self.entries.push(IntakeEntry::Landed {
             hand,
@@ -211,13 +212,39 @@ impl Ledger {
     }
 
     /// The rows of the records taken, by their index.
-    pub(crate) fn into_rows(self) -> TakenRows
+    pub(crate) fn into_rows(self) -> SwitchLog<TakenRow>
         ensures rows { result.items ≡ rows_in self.entries }
+        ensures kept { result.kept ≡ self.keeps }
         ensures before_close { IsTrue (all_with_before is_taken_open self.entries) }
     {
-        let Ledger { rows, ending, .. } = self;
-        with_rows(ending, rows)
+        let told = SwitchLog::told(&self);
+        let Ledger { rows, .. } = self;
+        match rows {
+            Some(rows) => SwitchLog::of_list(rows.into_list()),
+            None => told,
+        }
     }
+}
+
+impl Listing for Ledger {
+    ghost use Rattle.host_intake.specs.Told.{rows_in};
+
+    type Entry = TakenRow;
+
+    ghost entries = { λ a. rows_in a.entries };
+
+    fn count(&self) -> u64 {
+        self.taken as u64
+    }
+}
+
+fn new_rows(alloc: Global, room: u32, keeps: bool) -> Result<Option<Rows>, Oom>
+    ensures { IfOk result (λ rows. rows ≡ (if keeps then Some (record { items = []; room = room }) else None)) }
+{
+    if !keeps {
+        return Ok(None);
+    }
+    Ok(Some(Rows::new(alloc, room)?))
 }
 
 // The answer, if there is one, stands last, where it is to be kept and the session wasn't aborted.
@@ -234,14 +261,4 @@ fn keep(slips: &mut VecDeque<Slip>, phase: Phase, kept: bool, answer: Option<Sli
             unreachable!()
         };
     }
-}
-
-fn with_rows(mut all: TakenRows, rows: Vec<TakenRow>) -> TakenRows
-    requires { (all.items ≡ []) × (length rows.items ≤ all.room) }
-    ensures { result.items ≡ rows.items }
-{
-    for row in &rows {
-        all.push(*row);
-    }
-    all
 }

@@ -11,6 +11,7 @@ mod laws;
 mod ledger;
 mod parts;
 mod plan;
+mod rows;
 mod turns;
 mod waiting;
 

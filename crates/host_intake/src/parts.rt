@@ -1,6 +1,7 @@
 use host_group::CellSeat;
+use host_log::SwitchLog;
 use host_memory::Memory;
-use host_model::TakenRows;
+use host_model::TakenRow;
 use host_rings::Taker;
 use host_turn::BookSeat;
 
@@ -8,7 +9,7 @@ use host_turn::BookSeat;
 #[derive(Drop)]
 pub struct IntakeParts {
     /// The records taken, by rising index.
-    pub rows: TakenRows,
+    pub rows: SwitchLog<TakenRow>,
     pub taker: Taker,
     pub memory_seat: BookSeat<Memory>,
     pub cell_seat: CellSeat,

@@ -9,6 +9,8 @@ pub struct IntakePlan {
     pub size: BlockSize,
     /// For how many records everything is reserved.
     pub room: u32,
+    /// Whether the rows of its records are kept.
+    pub keeps: bool,
     /// The number of its seat at the memory's book.
     pub admissions: u64,
     /// Which request ring, which memory's book and which cells it is of.

@@ -1,10 +1,11 @@
 -- What listing an image gives.
-use Rattle.std.specs.Prelude.{◌≡◌, ℕ, ◌<◌, ◌≤◌, Bool, IsTrue, List, length, Result, Ok, Err}
+use Rattle.std.specs.Prelude.{◌≡◌, ℕ, ◌<◌, ◌≤◌, Bool, false, IsTrue, List, length, Result, Ok, Err}
 use Rattle.host_gpt.specs.Reads.{IsTableOf}
 use Rattle.host_gpt.specs.Table.{TableIsAbsent, TableIsTooLarge}
 use Rattle.host_gpt.specs.declared.table.Table.{Table}
 use Rattle.host_gpt.specs.declared.table_error.TableError.{TableError}
 use Rattle.host_gpt.specs.declared.table_error.TableError.TheVariants as table
+use Rattle.host_io.specs.Disks.{Shape}
 use Rattle.host_io.specs.declared.disk.DiskError.{DiskError}
 use Rattle.host_io.specs.declared.disk.DiskError.TheVariants as disk
 use Rattle.host_list.specs.Text.{list_text}
@@ -42,6 +43,20 @@ Refuses image Disk = Unit {0}
 Refuses image Oom = Unit {0}
 Refuses image Sink = Unit {0}
 
+-- What a refusal says of the number of blocks that the disk has, whether or not it tells: too many where that is the cause, and
+-- not too many where the table was looked at.
+abbrev pub RefusesBlocks : ℕ → ListError → Type 0
+RefusesBlocks blocks TooManyBlocks = 262144 < blocks
+RefusesBlocks blocks NoTable = blocks ≤ 262144
+RefusesBlocks blocks TableTooLarge = blocks ≤ 262144
+RefusesBlocks blocks _ = Unit {0}
+
+-- an image is attached to be read alone, in blocks of this size
+pub record IsReadAlone (size : ℕ) (shape : Shape) : Type 0 where
+  pub attached : IsTrue shape.attached
+  pub not_writable : shape.writable ≡ false
+  pub of_size : shape.size ≡ size
+
 -- attaching an image
 abbrev pub Attached : List (List ℕ) → Result ℕ ListError → Type 0
 Attached image (Ok blocks) = (blocks ≡ length image) × IsSmallEnough image
@@ -59,18 +74,19 @@ abbrev pub Opens : List (List ℕ) → Result Opened ListError → Type 0
 Opens image (Ok o) = IsListed image o.blocks o.table
 Opens image (Err e) = Refuses image e
 
--- the text of a table was put, which is the image's where the disk tells
-pub record Lists (disk_tells : Bool) (image : List (List ℕ)) (size : ℕ) (tells : Bool) (old new : List ℕ) (result : Result Unit ListError) : Type 0 where
+-- the text of a table on the disk's own blocks was put, which is the image's where the disk tells
+pub record Lists (disk_tells : Bool) (image : List (List ℕ)) (own size : ℕ) (tells : Bool) (old new : List ℕ) (result : Result Unit ListError) : Type 0 where
   pub blocks : ℕ
   pub table : Table
   pub listed : IsTrue disk_tells → IsListed image blocks table
+  pub own_blocks : blocks ≡ own
   pub text : Writes tells old new (list_text blocks size table) result
 
 -- What the answer says: the text was put, up to a failure of the sink, or why nothing was put, where the disk tells.
-abbrev pub Answers : Bool → List (List ℕ) → ℕ → Bool → List ℕ → List ℕ → Result Unit ListError → Type 0
-Answers disk_tells image size tells old new (Ok u) = Lists disk_tells image size tells old new (Ok u)
-Answers disk_tells image size tells old new (Err Sink) = Lists disk_tells image size tells old new (Err Sink)
-Answers disk_tells image size tells old new (Err e) = IsTrue disk_tells → Refuses image e
+abbrev pub Answers : Bool → List (List ℕ) → ℕ → ℕ → Bool → List ℕ → List ℕ → Result Unit ListError → Type 0
+Answers disk_tells image own size tells old new (Ok u) = Lists disk_tells image own size tells old new (Ok u)
+Answers disk_tells image own size tells old new (Err Sink) = Lists disk_tells image own size tells old new (Err Sink)
+Answers disk_tells image own size tells old new (Err e) = IsTrue disk_tells → Refuses image e
 
 -- the text wasn't begun
 abbrev pub IsRefused : Result Unit ListError → Type 0

@@ -1,8 +1,8 @@
 // Attaching an image.
-ghost use Rattle.std.specs.Prelude.{◌≡◌, ◌≢◌, false, Err, IsErrOf, IsTrue};
+ghost use Rattle.std.specs.Prelude.{◌≡◌, ◌≢◌, ◌≤◌, false, Err, IfErr, IfOk, IsErrOf, IsTrue};
 ghost use Rattle.host_io.specs.Causes.{Rose};
 ghost use Rattle.host_io.specs.Disks.{Attaches, OnlyReads, OpensNone};
-ghost use Rattle.host_list.specs.Answers.{Attached, HasAttached};
+ghost use Rattle.host_list.specs.Answers.{Attached, HasAttached, RefusesBlocks};
 ghost use Rattle.host_list.specs.declared.list_error.ListError.TheVariants.{Disk as DiskFails, Sink as SinkFails};
 
 use crate::ListError;
@@ -18,7 +18,11 @@ pub fn attach<D: Disk>(image: &str, size: BlockSize, disk: &mut D) -> Result<u64
     ensures fault { IsErrOf result DiskFails → Rose (D.counts disk.old).faults (D.counts disk.new).faults }
     ensures only_reads { OnlyReads (D.counts disk.old) (D.counts disk.new) (D.never_fails disk.old) (D.never_fails disk.new) }
     ensures opens_none { OpensNone (D.shape disk.old) (D.shape disk.new) }
+    ensures is_attached { HasAttached result → IsTrue (D.shape disk.new).attached }
     ensures read_alone { HasAttached result → (D.shape disk.new).writable ≡ false }
+    ensures of_size { HasAttached result → (D.shape disk.new).size ≡ size }
+    ensures blocks { IfErr result (RefusesBlocks (D.shape disk.new).blocks) }
+    ensures few { IfOk result (λ blocks. blocks ≤ 262144) }
     ensures attaches { Attaches size false (D.image_named disk.old image.now size) (D.shape disk.old) (D.shape disk.new) (D.state disk.new) result }
     ensures attached { IsTrue (D.shape disk.old).tells → Attached (D.image_named disk.old image.now size) result }
 {

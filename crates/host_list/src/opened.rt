@@ -23,10 +23,10 @@ pub struct Opened {
 }
 
 impl Opened {
-    ghost use Rattle.std.specs.Prelude.{◌≡◌, ◌≢◌, ◌⊎◌, false, Err, IfOk, IsErrOf, IsOk, IsTrue};
+    ghost use Rattle.std.specs.Prelude.{◌≡◌, ◌≢◌, ◌⊎◌, false, Err, IfErr, IfOk, IsErrOf, IsOk, IsTrue};
     ghost use Rattle.host_io.specs.Causes.{Rose};
     ghost use Rattle.host_io.specs.Disks.{OnlyReads, OpensNone};
-    ghost use Rattle.host_list.specs.Answers.{HasAttached, Opens};
+    ghost use Rattle.host_list.specs.Answers.{HasAttached, Opens, RefusesBlocks};
     ghost use Rattle.host_list.specs.Text.{list_text};
     ghost use Rattle.host_list.specs.declared.list_error.ListError.TheVariants.{Disk as DiskFails, Sink as SinkFails};
     ghost use Rattle.host_text.specs.Writing.{Writes};
@@ -42,7 +42,11 @@ impl Opened {
         ensures fault { IsErrOf result DiskFails → Rose (D.counts disk.old).faults (D.counts disk.new).faults }
         ensures only_reads { OnlyReads (D.counts disk.old) (D.counts disk.new) (D.never_fails disk.old) (D.never_fails disk.new) }
         ensures opens_none { OpensNone (D.shape disk.old) (D.shape disk.new) }
+        ensures is_attached { HasAttached result → IsTrue (D.shape disk.new).attached }
         ensures read_alone { HasAttached result → (D.shape disk.new).writable ≡ false }
+        ensures of_size { HasAttached result → (D.shape disk.new).size ≡ size }
+        ensures blocks { IfErr result (RefusesBlocks (D.shape disk.new).blocks) }
+        ensures own_blocks { IfOk result (λ opened. opened.blocks ≡ (D.shape disk.new).blocks) }
         ensures size { IfOk result (λ opened. opened.size ≡ size) }
         ensures opens { IsTrue (D.shape disk.old).tells → Opens (D.image_named disk.old image.now size) result }
     {

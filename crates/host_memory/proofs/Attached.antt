@@ -7,7 +7,7 @@ use Rattle.std.proofs.lemmas.Bool.{ne_eqb, or_parts}
 use Rattle.std.proofs.lemmas.List.{get_or-replicate, length-replicate}
 use Rattle.std.proofs.lemmas.Option.{slice_get_within}
 use Rattle.atomic_table.specs.Seated.{TableId}
-use Rattle.host_block.specs.Room.{WithRoom}
+use Rattle.host_log.specs.Switch.{SwitchedLog}
 use Rattle.host_frames.specs.Seats.{SeenPages, contents, pages_pool}
 use Rattle.host_model.specs.declared.memory.MemEntry.{MemEntry}
 use Rattle.host_model.specs.declared.memory.MemEvent.{MemEvent}
@@ -80,7 +80,7 @@ module _ (pool : TableId × ℕ) (size : ℕ) (h : List MemEvent) (bs : List Buf
     fresh = λ v out. (let n = length-append bs (b ∷ []) in any_skip (λ x. buffer_of x == v) h e (ne_eqb (buffer_of e) v (λ z. absurd (let s = sym of ∙ z in omega arith))) ∙ t.fresh v (omega arith));
   }
 
-module _ (limits : MemoryLimits) (pool : TableId × ℕ) (l : WithRoom MemEntry) (moves left : ℕ) (bs : List Buffer) (k : IsKept limits pool l moves left bs) where
+module _ (limits : MemoryLimits) (pool : TableId × ℕ) (l : SwitchedLog MemEntry) (moves left : ℕ) (bs : List Buffer) (k : IsKept limits pool l moves left bs) where
   attached_here : (from : ℕ) (p : SeenPages) → pages_pool p ≡ pool → contents p ≡ replicate (length (contents p)) (replicate limits.size 0) → length (contents p) ≤ 4294967295 → used_room (events l.items) + 3 ≤ limits.room → length bs < limits.ids
       → IsKept limits pool (record l { items = l.items ++ record { hand = limits.hands; what = Attach (suc (length bs)) (length (contents p)) from } ∷ [] }) moves left
       (bs ++ record { page_count = length (contents p); from = from; pages = Some p; closer = None; pins = 0 } ∷ [])

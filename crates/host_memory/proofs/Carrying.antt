@@ -7,7 +7,7 @@ use Rattle.std.proofs.lemmas.Bool.{eqb-true, ltb-true}
 use Rattle.std.proofs.lemmas.Bool.Decides.{leb_tells}
 use Rattle.std.proofs.lemmas.Option.{slice_get_read}
 use Rattle.atomic_table.specs.Seated.{TableId}
-use Rattle.host_block.specs.Room.{WithRoom}
+use Rattle.host_log.specs.Switch.{SwitchedLog}
 use Rattle.host_frames.specs.Seats.{SeenPages}
 use Rattle.host_model.specs.declared.memory.MemEntry.{MemEntry}
 use Rattle.host_model.specs.declared.memory.MemEvent.{MemEvent}
@@ -80,7 +80,7 @@ counted_step : (pool : TableId × ℕ) (p : Option SeenPages) (n : ℕ) → outl
 counted_step pool None n e = absurd (cc)
 counted_step pool (Some p) n e = ap (λ o. option_map_or (λ x. x.1) o 0) e
 
-module _ (limits : MemoryLimits) (pool : TableId × ℕ) (l : WithRoom MemEntry) (moves left : ℕ) (bs : List Buffer) (k : IsKept limits pool l moves left bs)
+module _ (limits : MemoryLimits) (pool : TableId × ℕ) (l : SwitchedLog MemEntry) (moves left : ℕ) (bs : List Buffer) (k : IsKept limits pool l moves left bs)
     (hand index id : ℕ) (pinned : is_pinned_by hand index id (events l.items) ≡ true) where
   pub pinned_given : (1 ≤ id) × (id ≤ length bs)
   pinned_given = entered pool limits.size (events l.items) bs k.told id

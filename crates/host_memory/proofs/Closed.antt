@@ -2,7 +2,7 @@
 use Rattle.std.proofs.Common.{◌≡◌, ℕ, suc, ◌+◌, ◌<◌, ◌==◌, false, List, [], ◌∷◌, ◌++◌, length, set, Some, None, refl, ap, arith, eq-eqb}
 use Rattle.std.specs.Prelude.{slice_get}
 use Rattle.atomic_table.specs.Seated.{TableId}
-use Rattle.host_block.specs.Room.{WithRoom}
+use Rattle.host_log.specs.Switch.{SwitchedLog}
 use Rattle.host_model.specs.declared.memory.MemEntry.{MemEntry}
 use Rattle.host_model.specs.declared.memory.MemEvent.TheVariants.{Release}
 use Rattle.host_model.specs.declared.memory.MemEvent.TheVariants as mem
@@ -22,7 +22,7 @@ use Rattle.host_memory.proofs.Pinning.{pins_left_same}
 use Rattle.host_memory.proofs.Pushed.{count_skip}
 use Rattle.host_memory.proofs.Telling.{told_closed, told_released}
 
-module _ (limits : MemoryLimits) (pool : TableId × ℕ) (l : WithRoom MemEntry) (moves left : ℕ) (bs : List Buffer) (k : IsKept limits pool l moves left bs) (i : ℕ) (b : Buffer) (at : slice_get bs i ≡ Some b) (still : is_released (suc i) (events l.items) ≡ false) where
+module _ (limits : MemoryLimits) (pool : TableId × ℕ) (l : SwitchedLog MemEntry) (moves left : ℕ) (bs : List Buffer) (k : IsKept limits pool l moves left bs) (i : ℕ) (b : Buffer) (at : slice_get bs i ≡ Some b) (still : is_released (suc i) (events l.items) ≡ false) where
   pub kept_closed : (index : ℕ) → b.closer ≡ None → IsKept limits pool (record l { items = l.items ++ record { hand = limits.hands + 1; what = mem.Close index (suc i) } ∷ [] }) moves left (set bs i (record b { closer = Some index }))
   kept_closed index none =
       let h = events l.items in let e = mem.Close index (suc i) in let c : Buffer = record b { closer = Some index } in

@@ -4,7 +4,7 @@ use Rattle.std.specs.Prelude.{slice_get}
 use Rattle.std.specs.Option.{option_map_or}
 use Rattle.std.proofs.lemmas.Bool.{leb-true}
 use Rattle.atomic_table.specs.Seated.{TableId}
-use Rattle.host_block.specs.Room.{WithRoom}
+use Rattle.host_log.specs.Switch.{SwitchedLog}
 use Rattle.host_frames.specs.Seats.{SeenPages, contents}
 use Rattle.host_model.specs.declared.memory.MemEntry.{MemEntry}
 use Rattle.host_model.specs.declared.memory.MemEvent.{MemEvent}
@@ -52,7 +52,7 @@ owed_outlined (Some p) = refl
 pub same_owed : (p q : Option SeenPages) → outline p ≡ outline q → release_owed p ≡ release_owed q
 same_owed p q e = owed_outlined p ∙ (ap (λ o. option_map_or (λ x. 1) o 0) e ∙ sym (owed_outlined q))
 
-module _ (limits : MemoryLimits) (pool : TableId × ℕ) (l : WithRoom MemEntry) (moves left : ℕ) (bs : List Buffer) (k : IsKept limits pool l moves left bs) (i : ℕ) (b : Buffer) (at : slice_get bs i ≡ Some b) (still : is_released (suc i) (events l.items) ≡ false) (room : used_room (events l.items) + 1 ≤ limits.room) where
+module _ (limits : MemoryLimits) (pool : TableId × ℕ) (l : SwitchedLog MemEntry) (moves left : ℕ) (bs : List Buffer) (k : IsKept limits pool l moves left bs) (i : ℕ) (b : Buffer) (at : slice_get bs i ≡ Some b) (still : is_released (suc i) (events l.items) ≡ false) (room : used_room (events l.items) + 1 ≤ limits.room) where
   filled_here : (block cnt byte : ℕ) (q : Option SeenPages) → outline q ≡ outline b.pages → ((j : ℕ) → page_held q j ≡ page_filled block cnt byte b.pages j)
       → IsKept limits pool (record l { items = l.items ++ record { hand = limits.hands; what = Fill (suc i) block cnt byte } ∷ [] }) moves left (set bs i (record b { pages = q }))
   filled_here block cnt byte q o f =

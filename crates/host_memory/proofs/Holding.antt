@@ -4,7 +4,7 @@ use Rattle.std.specs.Prelude.{slice_get}
 use Rattle.std.specs.Option.{option_map_or}
 use Rattle.std.proofs.lemmas.Option.{slice_get_read}
 use Rattle.atomic_table.specs.Seated.{TableId}
-use Rattle.host_block.specs.Room.{WithRoom}
+use Rattle.host_log.specs.Switch.{SwitchedLog}
 use Rattle.host_frames.specs.Seats.{SeenPages, contents, pages_pool}
 use Rattle.host_model.specs.declared.memory.MemEntry.{MemEntry}
 use Rattle.host_memory.specs.declared.buffer.Buffer.{Buffer}
@@ -30,7 +30,7 @@ some_step : (p : Option SeenPages) (o : (TableId × ℕ) × ℕ) → outline p �
 some_step None o e = absurd (cc)
 some_step (Some p) o e = refl
 
-module _ (limits : MemoryLimits) (pool : TableId × ℕ) (l : WithRoom MemEntry) (moves left : ℕ) (bs : List Buffer) (k : IsKept limits pool l moves left bs)
+module _ (limits : MemoryLimits) (pool : TableId × ℕ) (l : SwitchedLog MemEntry) (moves left : ℕ) (bs : List Buffer) (k : IsKept limits pool l moves left bs)
     (id : ℕ) (holds : holds_pages id (events l.items) ≡ true) where
   pub holds_given : (1 ≤ id) × (id ≤ length bs)
   holds_given = present pool limits.size (events l.items) bs k.told id (absent_step (is_released id (events l.items)) (attachment_of id (events l.items)) holds)

@@ -4,7 +4,7 @@ use Rattle.std.specs.Prelude.{slice_get}
 use Rattle.std.specs.List.{list_any}
 use Rattle.std.proofs.lemmas.List.{length-set}
 use Rattle.atomic_table.specs.Seated.{TableId}
-use Rattle.host_block.specs.Room.{WithRoom}
+use Rattle.host_log.specs.Switch.{SwitchedLog}
 use Rattle.host_model.specs.declared.memory.MemEntry.{MemEntry}
 use Rattle.host_model.specs.declared.memory.MemEvent.{MemEvent}
 use Rattle.host_model.specs.Lists.{count}
@@ -22,7 +22,7 @@ use Rattle.host_memory.proofs.Pushed.{count_skip, events_pushed}
 use Rattle.host_memory.proofs.Sounding.{sound_pushed}
 use Rattle.host_memory.proofs.Telling.{told_set}
 
-module _ (limits : MemoryLimits) (pool : TableId × ℕ) (l : WithRoom MemEntry) (moves left : ℕ) (bs : List Buffer) where
+module _ (limits : MemoryLimits) (pool : TableId × ℕ) (l : SwitchedLog MemEntry) (moves left : ℕ) (bs : List Buffer) where
   -- from the history with one entry more to the list with that entry
   pub kept_pushed : (x : MemEntry) (h : List MemEvent) → events l.items ++ x.what ∷ [] ≡ h → AreTold pool limits.size h bs → IsSound limits.size h → used_room h ≤ limits.room → pin_count h ≤ limits.records → length bs ≤ limits.ids
       → length (pins_left h) ≡ left → length l.items + 1 + moves + (limits.room + 2 * limits.records) + left + owed bs ≤ l.room + used_room h + 2 * pin_count h
@@ -52,7 +52,7 @@ pub record IsPlain (e : MemEvent) (i : ℕ) : Type 0 where
   pub pin_for : (j : ℕ) → is_pin_for j e ≡ false
   pub done_for : (j : ℕ) → is_done_for j e ≡ false
 
-module _ (limits : MemoryLimits) (pool : TableId × ℕ) (l : WithRoom MemEntry) (moves left : ℕ) (bs : List Buffer) (k : IsKept limits pool l moves left bs) where
+module _ (limits : MemoryLimits) (pool : TableId × ℕ) (l : SwitchedLog MemEntry) (moves left : ℕ) (bs : List Buffer) (k : IsKept limits pool l moves left bs) where
   pub kept_plain : (x : MemEntry) (i moves_left : ℕ) (b c : Buffer) → slice_get bs i ≡ Some b → IsPlain x.what i → is_released (suc i) (events l.items) ≡ false → lifts_page limits.size (events l.items) x.what ≡ true
       → IsToldBy pool limits.size (events l.items ++ x.what ∷ []) (suc i) c → used_room (events l.items ++ x.what ∷ []) ≤ limits.room
       → moves_left + owed (set bs i c) + 1 + used_room (events l.items) ≤ moves + owed bs + used_room (events l.items ++ x.what ∷ [])

@@ -4,7 +4,7 @@ use Rattle.std.specs.Prelude.{slice_get}
 use Rattle.std.specs.List.{list_any}
 use Rattle.std.proofs.lemmas.Slice.Eq.{bytes_eq-Decides}
 use Rattle.atomic_table.specs.Seated.{TableId}
-use Rattle.host_block.specs.Room.{WithRoom}
+use Rattle.host_log.specs.Switch.{SwitchedLog}
 use Rattle.host_frames.specs.Seats.{SeenPages}
 use Rattle.host_model.specs.declared.memory.MemEntry.{MemEntry}
 use Rattle.host_model.specs.declared.memory.MemEvent.TheVariants.{Land, Lift, Show}
@@ -28,7 +28,7 @@ use Rattle.host_memory.proofs.Pushed.{count_skip, count_add}
 use Rattle.host_memory.proofs.Replacing.{set_same}
 use Rattle.host_memory.proofs.Telling.{LeavesAlone, told_landed, told_still}
 
-module _ (limits : MemoryLimits) (pool : TableId × ℕ) (l : WithRoom MemEntry) (moves left : ℕ) (bs : List Buffer) (k : IsKept limits pool l moves left bs) where
+module _ (limits : MemoryLimits) (pool : TableId × ℕ) (l : SwitchedLog MemEntry) (moves left : ℕ) (bs : List Buffer) (k : IsKept limits pool l moves left bs) where
   module _ (i : ℕ) (b : Buffer) (at : slice_get bs i ≡ Some b) (still : is_released (suc i) (events l.items) ≡ false) where
     pub kept_landed : (hand index j block : ℕ) (ws : List ℕ) (q : Option SeenPages) → 1 ≤ moves → list_any (is_pin_by hand index (suc i)) (events l.items) ≡ true → outline q ≡ outline b.pages → contents_held q ≡ set (contents_held b.pages) block ws → block < length (contents_held b.pages) → length ws ≡ limits.size
         → IsKept limits pool (record l { items = l.items ++ record { hand = hand; what = Land index j (suc i) block ws } ∷ [] }) (moves - 1) left (set bs i (record b { pages = q }))

@@ -8,7 +8,7 @@ use Rattle.std.proofs.lemmas.Bool.{ne_eqb}
 use Rattle.std.proofs.lemmas.Bool.Decides.{eqb_tells}
 use Rattle.std.proofs.lemmas.List.{length-set}
 use Rattle.atomic_table.specs.Seated.{TableId}
-use Rattle.host_block.specs.Room.{WithRoom}
+use Rattle.host_log.specs.Switch.{SwitchedLog}
 use Rattle.host_model.specs.declared.memory.MemEntry.{MemEntry}
 use Rattle.host_model.specs.declared.memory.MemEvent.{MemEvent}
 use Rattle.host_model.specs.declared.memory.MemEvent.TheVariants.{Pin}
@@ -73,7 +73,7 @@ module _ (size : ℕ) (h : List MemEvent) (s : IsSound size h) (index v by : ℕ
     done = λ j d. done_step j (eqb_tells j index) (sym (any_skip (is_done_for j) h (Pin index v by) refl) ∙ d);
   }
 
-module _ (limits : MemoryLimits) (pool : TableId × ℕ) (l : WithRoom MemEntry) (moves left : ℕ) (bs : List Buffer) (k : IsKept limits pool l moves left bs) where
+module _ (limits : MemoryLimits) (pool : TableId × ℕ) (l : SwitchedLog MemEntry) (moves left : ℕ) (bs : List Buffer) (k : IsKept limits pool l moves left bs) where
   pub kept_pinned : (index by i : ℕ) (b : Buffer) → slice_get bs i ≡ Some b → is_released (suc i) (events l.items) ≡ false → list_any (is_close_of (suc i)) (events l.items) ≡ false → count (is_pin_for index) (events l.items) ≡ 0
       → pin_count (events l.items) < limits.records
       → IsKept limits pool (record l { items = l.items ++ record { hand = limits.hands + 1; what = Pin index (suc i) by } ∷ [] }) moves (left + 1) (set bs i (record b { pins = b.pins + 1 }))

@@ -1,13 +1,13 @@
 -- What holds of a memory at all times holds again once there is room for more lifts and landings.
 use Rattle.std.proofs.Common.{◌≡◌, ℕ, ◌+◌, ◌-◌, ◌≤◌, max, List, length, arith}
 use Rattle.atomic_table.specs.Seated.{TableId}
-use Rattle.host_block.specs.Room.{WithRoom}
+use Rattle.host_log.specs.Switch.{SwitchedLog}
 use Rattle.host_model.specs.declared.memory.MemEntry.{MemEntry}
 use Rattle.host_memory.specs.declared.buffer.Buffer.{Buffer}
 use Rattle.host_memory.specs.declared.limits.MemoryLimits.{MemoryLimits}
 use Rattle.host_memory.specs.Kept.{IsKept}
 
-module _ (limits : MemoryLimits) (pool : TableId × ℕ) (l : WithRoom MemEntry) (moves left : ℕ) (bs : List Buffer) (k : IsKept limits pool l moves left bs) where
+module _ (limits : MemoryLimits) (pool : TableId × ℕ) (l : SwitchedLog MemEntry) (moves left : ℕ) (bs : List Buffer) (k : IsKept limits pool l moves left bs) where
   pub moves_fit : moves ≤ l.room - length l.items
   moves_fit = let used = k.room.used in let pinned = k.room.pinned in let room = k.room.room in omega arith
 

@@ -6,7 +6,7 @@ use Rattle.std.proofs.lemmas.Bool.{eqb-true, ne_eqb}
 use Rattle.std.proofs.lemmas.Bool.Decides.{eqb_tells}
 use Rattle.std.proofs.lemmas.List.{length-set}
 use Rattle.atomic_table.specs.Seated.{TableId}
-use Rattle.host_block.specs.Room.{WithRoom}
+use Rattle.host_log.specs.Switch.{SwitchedLog}
 use Rattle.host_model.specs.declared.memory.MemEntry.{MemEntry}
 use Rattle.host_model.specs.declared.memory.MemEvent.{MemEvent}
 use Rattle.host_model.specs.declared.memory.MemEvent.TheVariants.{Done}
@@ -92,7 +92,7 @@ module _ (size : ℕ) (h : List MemEvent) (s : IsSound size h) (hand index v : �
     done = λ j d. count_skip (is_pin_for j) h (Done index v) refl ∙ done_step j (eqb_tells index j) d;
   }
 
-module _ (limits : MemoryLimits) (pool : TableId × ℕ) (l : WithRoom MemEntry) (moves left : ℕ) (bs : List Buffer) (k : IsKept limits pool l moves left bs) (hand index i : ℕ) (b : Buffer) (at : slice_get bs i ≡ Some b)
+module _ (limits : MemoryLimits) (pool : TableId × ℕ) (l : SwitchedLog MemEntry) (moves left : ℕ) (bs : List Buffer) (k : IsKept limits pool l moves left bs) (hand index i : ℕ) (b : Buffer) (at : slice_get bs i ≡ Some b)
     (still : is_released (suc i) (events l.items) ≡ false) (pinned : is_pinned_by hand index (suc i) (events l.items) ≡ true) where
   pub left_some : 1 ≤ left
   left_some = let total = total_done limits.size (events l.items) k.sound hand index (suc i) still pinned in let is = k.room.counted in omega arith

@@ -2,7 +2,7 @@
 use Rattle.std.specs.Prelude.{◌≡◌, ℕ, suc, ◌+◌, ◌*◌, ◌<◌, ◌≤◌, ◌==◌, true, false, if◌then◌else◌, List, [], ◌∷◌, length, slice_get, filter_map, Option, Some, None, IsTrue}
 use Rattle.std.specs.List.{list_all, list_any}
 use Rattle.atomic_table.specs.Seated.{TableId}
-use Rattle.host_block.specs.Room.{WithRoom}
+use Rattle.host_log.specs.Switch.{SwitchedLog}
 use Rattle.host_frames.specs.Seats.{SeenPages}
 use Rattle.host_model.specs.declared.memory.MemEntry.{MemEntry}
 use Rattle.host_model.specs.declared.memory.MemEvent.{MemEvent}
@@ -64,7 +64,7 @@ pub record IsSound (size : ℕ) (h : List MemEvent) : Type 0 where
   pub done : (i : ℕ) → list_any (is_done_for i) h ≡ true → count (is_pin_for i) h ≡ 1
 
 -- there is room for all entries that may come
-pub record HasRoom (limits : MemoryLimits) (l : WithRoom MemEntry) (moves left : ℕ) (buffers : List Buffer) : Type 0 where
+pub record HasRoom (limits : MemoryLimits) (l : SwitchedLog MemEntry) (moves left : ℕ) (buffers : List Buffer) : Type 0 where
   pub used : used_room (events l.items) ≤ limits.room
   pub pinned : pin_count (events l.items) ≤ limits.records
   pub ids : length buffers ≤ limits.ids
@@ -76,7 +76,7 @@ pub record AreNumbered (client admissions : ℕ) (entries : List MemEntry) : Typ
   pub numbers : IsTrue (list_all (is_numbered client admissions) entries)
   pub hands : IsTrue (list_all (is_by_its_hand (events entries)) entries)
 
-pub record IsKept (limits : MemoryLimits) (pool : TableId × ℕ) (l : WithRoom MemEntry) (moves pins : ℕ) (buffers : List Buffer) : Type 0 where
+pub record IsKept (limits : MemoryLimits) (pool : TableId × ℕ) (l : SwitchedLog MemEntry) (moves pins : ℕ) (buffers : List Buffer) : Type 0 where
   pub told : AreTold pool limits.size (events l.items) buffers
   pub sound : IsSound limits.size (events l.items)
   pub room : HasRoom limits l moves pins buffers

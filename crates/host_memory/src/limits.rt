@@ -19,6 +19,8 @@ pub struct MemoryLimits {
     pub moves: u64,
     /// How many hands there are. The client's number is this one, the admissions' one more.
     pub hands: u32,
+    /// Whether the history is kept in memory.
+    pub keeps: bool,
 }
 
 impl MemoryLimits {

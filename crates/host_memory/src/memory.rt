@@ -1,5 +1,5 @@
 //! The buffers of a session as a state with a history.
-ghost use Rattle.std.specs.Prelude.{◌≡◌, ℕ, ◌≤◌, [], filter_map, length, max, IfOk, IsTrue, OnOk, OnErr};
+ghost use Rattle.std.specs.Prelude.{◌≡◌, ℕ, ◌<◌, ◌≤◌, [], filter_map, length, max, IfOk, IsTrue, OnOk, OnErr};
 ghost use Rattle.std.specs.List.{list_all};
 ghost use Rattle.host_frames.specs.Seats.{page_size, pool_id};
 ghost use Rattle.host_memory.specs.Entries.{given_count};
@@ -11,9 +11,10 @@ ghost use Rattle.host_memory.specs.State.{admissions_of, client_of, history};
 
 use crate::buffer::Buffer;
 use crate::limits::{MemoryLimits, MemoryPlan};
-use host_block::{BlockSize, Oom};
+use host_block::Oom;
 use host_frames::Pool;
-use host_model::{MemEntries, MemEntry};
+use host_log::SwitchLog;
+use host_model::MemEntry;
 use host_turn::Story;
 use std::alloc::Global;
 use std::marker::Model;
@@ -26,7 +27,7 @@ use std::snapshot::Snapshot;
 pub struct Memory {
     pub(crate) limits: MemoryLimits,
     pub(crate) pool: Snapshot<Pool>,
-    pub(crate) entries: MemEntries,
+    pub(crate) entries: SwitchLog<MemEntry>,
     pub(crate) moves: u64,
     pub(crate) pins: u32,
     // Buffer 1 stands first.
@@ -34,7 +35,7 @@ pub struct Memory {
 }
 
 impl Model for Memory {
-    ghost use Rattle.std.specs.Prelude.{◌≤◌, vec_capacity};
+    ghost use Rattle.std.specs.Prelude.{◌≡◌, ◌≤◌, vec_capacity};
     ghost use Rattle.host_frames.specs.Seats.{pool_id};
     ghost use Rattle.host_memory.specs.State.{MemoryState};
     ghost use Rattle.host_memory.specs.Kept.{IsKept};
@@ -43,7 +44,7 @@ impl Model for Memory {
 
     ghost view = { λ m. record { plan = record { limits = m.limits; pool = pool_id m.pool.value }; entries = m.entries.items; moves = m.moves } };
 
-    ghost invariant = { λ m. IsKept m.limits (pool_id m.pool.value) m.entries m.moves m.pins m.buffers.items × (m.limits.ids ≤ vec_capacity m.buffers) × (m.limits.ids ≤ 65535) × (m.limits.hands ≤ 4294967293) };
+    ghost invariant = { λ m. IsKept m.limits (pool_id m.pool.value) m.entries m.moves m.pins m.buffers.items × (m.limits.ids ≤ vec_capacity m.buffers) × (m.limits.ids ≤ 65535) × (m.limits.hands ≤ 4294967293) × (m.entries.kept ≡ m.limits.keeps) };
 }
 
 impl Story for Memory {
@@ -64,48 +65,28 @@ impl Story for Memory {
 
 impl Memory {
     /// No buffers yet. It has `Oom` for an answer only for want of memory.
-    pub fn new(
-        alloc: Global,
-        size: BlockSize,
-        ids: u32,
-        room: u64,
-        records: u32,
-        moves: u64,
-        hands: u32,
-        pool: &Pool,
-    ) -> Result<Memory, Oom>
-        requires ids { ids ≤ 65535 }
-        requires hands { hands ≤ 4294967293 }
-        requires size { page_size pool.now ≡ size }
+    pub fn new(alloc: Global, limits: MemoryLimits, pool: &Pool) -> Result<Memory, Oom>
+        requires ids { limits.ids ≤ 65535 }
+        requires hands { limits.hands ≤ 4294967293 }
+        requires size { page_size pool.now ≡ limits.size }
         ensures { IfOk result (λ m. m ≡ record {
-          plan = record {
-            limits = record { size = size; ids = ids; room = room; records = records; moves = moves; hands = hands };
-            pool = pool_id pool.now;
-          };
+          plan = record { limits = limits; pool = pool_id pool.now };
           entries = [];
-          moves = moves;
+          moves = limits.moves;
         }) }
     {
-        let limits = MemoryLimits {
-            size,
-            ids,
-            room,
-            records,
-            moves,
-            hands,
-        };
         let Some(entry_count) = limits.entry_count() else {
             return Err(Oom);
         };
-        let Ok(buffers) = Vec::with_capacity(alloc, ids as usize) else {
+        let Ok(buffers) = Vec::with_capacity(alloc, limits.ids as usize) else {
             return Err(Oom);
         };
-        let entries = MemEntries::with_room(alloc, entry_count)?;
+        let entries = SwitchLog::with_room(alloc, entry_count, limits.keeps)?;
         Ok(Memory {
             limits,
             pool: Snapshot::of(pool),
             entries,
-            moves,
+            moves: limits.moves,
             pins: 0,
             buffers,
         })
@@ -143,9 +124,11 @@ impl Memory {
         self.pins
     }
 
-    /// Makes room for `n` lifts and landings. It has `Oom` for an answer only for want of memory.
+    /// Makes room for `n` lifts and landings. It has `Oom` for an answer only for want of memory, and takes none where they fit
+    /// already.
     pub fn make_room(&mut self, n: u64) -> Result<(), Oom>
         ensures ok { OnOk result (self.new ≡ record self.old { moves = max self.old.moves n }) }
+        ensures full { OnErr result (self.old.moves < n) }
         ensures err { OnErr result (self.new ≡ self.old) }
     {
         if n <= self.moves {

@@ -12,7 +12,8 @@ ghost use Rattle.host_memory.specs.State.{history, size_of};
 
 use crate::memory::Memory;
 use host_frames::Pages;
-use host_model::{MemEntries, MemEntry, MemEvent};
+use host_log::SwitchLog;
+use host_model::{MemEntry, MemEvent};
 
 impl Memory {
     /// The pages of the first buffer that holds some leave.
@@ -31,9 +32,10 @@ impl Memory {
     }
 
     /// The history.
-    pub fn into_entries(self) -> MemEntries
+    pub fn into_entries(self) -> SwitchLog<MemEntry>
         requires { first_held (history self) ≡ None }
         ensures entries { result.items ≡ self.entries }
+        ensures kept { result.kept ≡ self.plan.limits.keeps }
         ensures once { (v : ℕ) → count (is_release_of v) (history self) ≡ count (is_given_by v) (history self) }
         ensures last { IsTrue (all_with_before comes_before_release (history self)) }
         ensures closes { IsTrue (all_with_before pins_before_close (history self)) }

@@ -6,6 +6,7 @@ use denote.Struct.Struct.{Struct}
 use Rattle.std.proofs.Crossing.{crosses}
 use Rattle.host_device.proofs.Crossing.{device_send}
 use Rattle.host_io.specs.declared.disk.Disk as disk
+use Rattle.host_log.proofs.Crossing.{ghost_send}
 use Rattle.host_model.specs.contracts.event.Event as event
 use Rattle.host_model.specs.contracts.memory.MemEntry as mem_entry
 use Rattle.host_model.specs.contracts.row.TakenRow as row
@@ -34,7 +35,7 @@ room_send : (D : RattleType) (g : disk.Ghosts D.Denot) → IsSend D → IsSend (
 room_send D g s =
     let T = room.the_type D g in
     let d = device_send D g s in
-    let all : AllSend (shape T).fields = (search (sendable, crosses, table_seat_send) depth 20, (search (sendable, crosses, table_seat_send) depth 20, (search (sendable, crosses, report_send) depth 15, tt))) in
+    let all : AllSend (shape T).fields = (search (sendable, crosses, table_seat_send) depth 20, (search (sendable, crosses, table_seat_send) depth 20, (search (sendable, crosses, report_send, ghost_send) depth 40 fits 10000, tt))) in
     recorded_send (Struct (shape T)) T.D T.to T.to_one (struct_send (shape T) all)
 
 -- a hand as a field

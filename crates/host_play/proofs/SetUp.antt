@@ -1,5 +1,5 @@
 -- What a run stands on, from what was taken and started.
-use Rattle.std.proofs.Common.{◌≡◌, ℕ, ◌+◌, ◌^◌, ◌<◌, ◌≤◌, List, length, map, All, Some, sym, ap, subst, ◌∙◌, arith, vec_capacity}
+use Rattle.std.proofs.Common.{◌≡◌, ℕ, ◌+◌, ◌^◌, ◌<◌, ◌≤◌, true, List, length, map, All, Some, sym, ap, subst, ◌∙◌, arith, vec_capacity}
 use Rattle.std.specs.Prelude.{slice_get}
 use Rattle.std.proofs.lemmas.List.{length-map, length-reverse}
 use Rattle.std.proofs.lemmas.List.FromFn.{length-range_with_len}
@@ -15,6 +15,7 @@ use Rattle.host_worker.specs.Servers.{session_count}
 use Rattle.host_worker.specs.Starts.{AreSpecs, IsPlanned}
 use Rattle.host_worker.proofs.Lists.{at_place, each_place}
 use Rattle.script_model.specs.Plans.{SessionPlan}
+use Rattle.script_played.specs.Room.{steps_ahead}
 use Rattle.host_play.specs.declared.actor.Actor.{Actor}
 use Rattle.host_play.specs.declared.played.Setting.{Setting}
 use Rattle.host_play.specs.declared.stage.Props.{Props}
@@ -34,7 +35,7 @@ module _ (plans : List SessionPlan) (ranges : List Range) (size depth blocks : �
       let found = spec_at 1 plans ranges size depth k plan.0 spec plan.1 at in
       (plan.0, found.0, found.1, found.2)
 
-  pub are_specs : length plans ≤ 16 → All (λ range. range.first + range.count ≤ blocks) ranges → blocks < 2 ^ 64 → (1 ≤ depth) × (depth ≤ 128) → AreSpecs blocks size (specs_from 1 plans ranges size depth)
+  pub are_specs : length plans ≤ 16 → All (λ range. range.first + range.count ≤ blocks) ranges → blocks < 2 ^ 64 → (1 ≤ depth) × (depth ≤ 128) → AreSpecs true blocks size (specs_from 1 plans ranges size depth)
   are_specs few inside word deep = record {
     few = omega (arith, few, specs_length 1 plans ranges size depth same);
     numbers = λ k spec at. let number : spec.number ≡ 1 + k = ap (λ (s : SessionSpec). s.number) (placed k spec at).3 in omega (arith, number);
@@ -44,6 +45,7 @@ module _ (plans : List SessionPlan) (ranges : List Range) (size depth blocks : �
           depth = subst (λ (n : ℕ). (1 ≤ n) × (n ≤ 128)) (sym (ap (λ (s : SessionSpec). s.depth) is)) deep;
           size_is = ap (λ (s : SessionSpec). s.size) is;
         });
+    kept = each_place (λ (spec : SessionSpec). spec.keeps ≡ true) (specs_from 1 plans ranges size depth) (λ k spec at. ap (λ (s : SessionSpec). s.keeps) (placed k spec at).3);
     parts = each_place (λ (spec : SessionSpec). (spec.part.first + spec.part.count ≤ blocks) × (spec.part.first + spec.part.count < 2 ^ 64)) (specs_from 1 plans ranges size depth) (λ k spec at.
         let p = placed k spec at in
         let fits : p.1.first + p.1.count ≤ blocks = at_place (λ (r : Range). r.first + r.count ≤ blocks) ranges k p.1 inside p.2 in
@@ -60,14 +62,16 @@ module _ {D : Type 0} {g : disk.Ghosts D} where
       ∙ ap (λ (l : List ℕ). length l) numbers ∙ length-range_with_len 0 n
 
   pub is_set : (opened : D) (plans : List SessionPlan) (ranges : List Range) (size : ℕ) (setting : Setting) (made : Device D g) (props : Props D g) (hands : ℕ) (stage : Stage D g)
-      → IsStaged made props hands stage → device.opening_of made ≡ opened → (device.shape_of made).size ≡ size → hands ≡ setting.workers + length plans → length ranges ≡ length plans → AreProps plans (specs_from 1 plans ranges size setting.depth) size hands props
+      → IsStaged made props hands stage → device.opening_of made ≡ opened → (device.shape_of made).size ≡ size → (device.steps_of made).kept ≡ true → (device.steps_of made).room ≡ steps_ahead plans → hands ≡ setting.workers + length plans → length ranges ≡ length plans → AreProps plans (specs_from 1 plans ranges size setting.depth) size hands props
       → IsSet opened plans ranges size setting stage
-  is_set opened plans ranges size setting made props hands stage st opening size_is hands_are same pr =
+  is_set opened plans ranges size setting made props hands stage st opening size_is keeps room hands_are same pr =
       let specs : length props.specs.items ≡ length plans = ap (λ (l : List SessionSpec). length l) pr.specs_are ∙ specs_length 1 plans ranges size setting.depth same in
       record {
         server = st.server;
         opening = ap device.opening_of st.opening ∙ opening;
         block_size = ap (λ (d : Device D g). (device.shape_of d).size) st.opening ∙ size_is;
+        keeps = ap (λ (d : Device D g). (device.steps_of d).kept) st.opening ∙ keeps;
+        steps_room = ap (λ (d : Device D g). (device.steps_of d).room) st.opening ∙ room;
         hand_count = st.hand_count ∙ hands_are;
         specs_are = st.specs_are ∙ pr.specs_are;
         numbers = subst (λ (n : ℕ). numbers_of stage.actors.items ≡ below n) hands_are st.numbers;

@@ -1,5 +1,5 @@
 -- What a run stands on, and what stands before its sessions begin.
-use Rattle.std.specs.Prelude.{◌≡◌, ℕ, ◌+◌, ◌≤◌, List, [], length, map, All, IsTrue, vec_capacity}
+use Rattle.std.specs.Prelude.{◌≡◌, ℕ, ◌+◌, ◌≤◌, List, [], length, map, All, true, IsTrue, vec_capacity}
 use Rattle.host_block.specs.Disk.{DiskState}
 use Rattle.host_block.specs.declared.range.Range.{Range}
 use Rattle.host_device.specs.declared.device.Device.{Device}
@@ -8,10 +8,11 @@ use Rattle.host_io.specs.Disks.{Shape}
 use Rattle.host_io.specs.declared.disk.Disk as disk
 use Rattle.host_session.specs.declared.spec.SessionSpec.{SessionSpec}
 use Rattle.host_turn.specs.Seats.{opening_of}
-use Rattle.host_worker.specs.Servers.{IsServer, plan_of}
+use Rattle.host_worker.specs.Servers.{IsServer, keeps_of, plan_of}
 use Rattle.host_worker.specs.Shares.{specs_of}
 use Rattle.script_model.specs.Plans.{SessionPlan}
 use Rattle.script_model.specs.declared.script.SessionScript.{SessionScript}
+use Rattle.script_played.specs.Room.{steps_ahead}
 use Rattle.host_play.specs.declared.played.Setting.{Setting}
 use Rattle.host_play.specs.declared.stage.Props.{Props}
 use Rattle.host_play.specs.declared.stage.Stage.{Stage}
@@ -72,11 +73,14 @@ module _ {D : Type 0} {g : disk.Ghosts D} where
     pub cast : (plans : List SessionPlan) (ranges : List Range) (size depth : ℕ) → length ranges ≡ length plans → props.specs.items ≡ specs_from 1 plans ranges size depth → AreAllPieces size plans props.pieces.items → All (IsCast stage.server plans) stage.actors.items
     pub room : (stage.clients ≡ props.clients) × (stage.hands ≡ props.hands)
 
-  -- A server over this disk with a session for each plan, and all that take part.
+  -- A server over this disk with a session for each plan, whose histories are kept, and all that take part. The device has
+  -- room for the steps that the plans make at most.
   pub record IsSet (opened : D) (plans : List SessionPlan) (ranges : List Range) (size : ℕ) (setting : Setting) (stage : Stage D g) : Type 0 where
     pub server : IsServer stage.server
     pub opening : device.opening_of (opening_of stage.server.device) ≡ opened
     pub block_size : (device.shape_of (opening_of stage.server.device)).size ≡ size
+    pub keeps : keeps_of stage.server ≡ true
+    pub steps_room : (device.steps_of (opening_of stage.server.device)).room ≡ steps_ahead plans
     pub hand_count : stage.server.hands ≡ setting.workers + length plans
     pub specs_are : specs_of stage.server.sessions.items ≡ specs_from 1 plans ranges size setting.depth
     pub numbers : numbers_of stage.actors.items ≡ below (setting.workers + length plans)

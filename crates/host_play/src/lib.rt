@@ -9,6 +9,7 @@ mod client;
 mod closing;
 mod device;
 mod ending;
+mod gathering;
 mod lines;
 mod opened;
 mod pieces;

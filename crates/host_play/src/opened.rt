@@ -8,6 +8,7 @@ ghost use Rattle.host_play.specs.Opened.{spec_for, specs_from};
 use host_block::{BlockSize, Oom, Range};
 use host_session::SessionSpec;
 use script_model::{Script, ScriptLine, SessionScript};
+use script_played::moves_in;
 use std::alloc::Global;
 
 // How many ids a session gives at most.
@@ -36,7 +37,7 @@ pub fn specs_for(
     Ok(specs)
 }
 
-// The spec of a session, with room for all that its lines can make.
+// The spec of a session, with room for all that its lines can make. Its histories are kept for the report.
 fn spec_for(
     number: u32,
     session: &SessionScript,
@@ -58,7 +59,8 @@ fn spec_for(
         records: records as u32,
         attaches: attach_count(lines).min(MOST_IDS) as u32,
         events: call_count(lines) as u64 + records as u64,
-        memory_room: 0,
+        memory_room: moves_in(lines),
+        keeps: true,
     }
 }
 

@@ -10,7 +10,7 @@ ghost use Rattle.host_worker.specs.Accounts.{AreAccounted};
 ghost use Rattle.host_worker.specs.Ends.{AreEnded, hand_end};
 ghost use Rattle.host_worker.specs.Finishes.{AreClosed, AreHands};
 ghost use Rattle.host_worker.specs.Gathered.{reported};
-ghost use Rattle.host_worker.specs.Servers.{IsServer, plan_of, session_count};
+ghost use Rattle.host_worker.specs.Servers.{IsServer, keeps_of, plan_of, session_count};
 ghost use Rattle.script_model.specs.Limit.{limit_of};
 ghost use Rattle.script_model.specs.Planned.{can_be_said};
 ghost use Rattle.script_model.specs.Plans.{plans_of};
@@ -24,11 +24,12 @@ ghost use Rattle.host_play.specs.Stages.{IsGround, IsSetting};
 use crate::acting::act_all;
 use crate::casting::dismiss_all;
 use crate::closing::close_device;
+use crate::gathering::gather_kept;
 use crate::played::{Ground, NoPlay, Played, Setting};
 use crate::stage::{Stage, set_stage};
 use host_block::Range;
 use host_io::{Disk, Gate};
-use host_worker::{Finished, gather};
+use host_worker::Finished;
 use script_model::Script;
 use std::alloc::Global;
 use std::sync::Wait;
@@ -72,7 +73,7 @@ pub fn play<R: Threads + Wait + Sync, D: Disk + Send, G: Gate + Sync>(
     let stage = set_stage(alloc, script, ranges, ground, setting)?;
     let mut finished = perform(rt, alloc, stage, script, gate);
     let closing = close_device(&mut finished.device, setting.cut);
-    let (report, served, disk) = gather(finished, blocks, size, which, closing);
+    let (report, served, disk) = gather_kept(finished, blocks, size, which, closing);
     Ok(Played {
         report,
         served,
@@ -99,6 +100,7 @@ fn perform<R: Threads + Wait + Sync, D: Disk + Send, G: Gate + Sync>(
     ensures ended { HasPerformed (plans_of script.now) stage.server result.ends }
     ensures story { (result.ends.story ≡ (steps_of result.device).items) × (result.ends.size ≡ (shape_of result.device).size) }
     ensures device { fixed_of result.device ≡ fixed_of (opening_of stage.server.device) }
+    ensures keeps { result.ends.keeps ≡ keeps_of stage.server }
 {
     let mut stage = stage;
     act_all(
@@ -123,6 +125,7 @@ fn leave_stage<D: Disk>(stage: Stage<D>) -> Finished<D>
     ensures ended { AreEnded (clients_in stage.actors.items) (map hand_end (hands_in stage.actors.items)) result.ends }
     ensures story { (result.ends.story ≡ (steps_of result.device).items) × (result.ends.size ≡ (shape_of result.device).size) }
     ensures device { fixed_of result.device ≡ fixed_of (opening_of stage.server.device) }
+    ensures keeps { result.ends.keeps ≡ keeps_of stage.server }
 {
     let Stage {
         server,

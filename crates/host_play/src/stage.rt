@@ -18,6 +18,7 @@ use host_io::Disk;
 use host_session::{ClientEnd, SessionSpec};
 use host_worker::{Hand, NoServer, Server, Started};
 use script_model::Script;
+use script_played::steps_ahead;
 use std::alloc::Global;
 
 /// A server, all that take part, and room for its clients and hands to come back to.
@@ -40,7 +41,8 @@ pub struct Props<D: Disk> {
     pub hands: Vec<Hand<D>>,
 }
 
-/// Starts a server over this disk, with a session for each of the script, and all that take part.
+/// Starts a server over this disk, with a session for each of the script, and all that take part. All histories have room for
+/// what the script makes at most.
 pub fn set_stage<D: Disk>(
     alloc: Global,
     script: &Script,
@@ -66,7 +68,7 @@ pub fn set_stage<D: Disk>(
         Ok(props) => props,
         Err(Oom) => return Err(NoPlay { disk }),
     };
-    match open_device(alloc, disk, blocks, size) {
+    match open_device(alloc, disk, blocks, size, steps_ahead(script)) {
         Ok(device) => start(alloc, device, props, hands, size),
         Err(no) => Err(no),
     }
@@ -115,7 +117,7 @@ fn start<D: Disk>(
 ) -> Result<Stage<D>, NoPlay<D>>
     requires hands { (length props.specs.items ≤ hands) × (1 ≤ hands) × (hands ≤ 4294967293) }
     requires device { ((steps_of device).items ≡ []) × ((shape_of device).size ≡ size) }
-    requires specs { AreSpecs (shape_of device).blocks size props.specs.items }
+    requires specs { AreSpecs (steps_of device).kept (shape_of device).blocks size props.specs.items }
     requires room { HasRoomForAll hands props }
     ensures { MatchResult result (λ stage. IsStaged device props hands stage) (λ no. no.disk ≡ disk_of device) }
 {

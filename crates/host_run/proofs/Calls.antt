@@ -18,9 +18,9 @@ if_none (Some report) P holds = tt
 pub listed_line : (l : Listing) (s : RunStatus) → ListLeaves l s → s ≢ status.Done → s ≢ status.SinkFault → PutsText l.sink l.new_sink (refusal_line s)
 listed_line l status.Done leaves not_done not_sink = absurd (not_done refl)
 listed_line l status.SinkFault leaves not_done not_sink = absurd (not_sink refl)
-listed_line l status.NoTable leaves not_done not_sink = leaves.0
-listed_line l (status.TooLarge limit.Blocks) leaves not_done not_sink = leaves.0
-listed_line l (status.TooLarge limit.Table) leaves not_done not_sink = leaves.0
+listed_line l status.NoTable leaves not_done not_sink = leaves.line
+listed_line l (status.TooLarge limit.Blocks) leaves not_done not_sink = leaves.line
+listed_line l (status.TooLarge limit.Table) leaves not_done not_sink = leaves.line
 listed_line l (status.TooLarge limit.ScriptBytes) leaves not_done not_sink = absurd leaves
 listed_line l (status.TooLarge limit.Sessions) leaves not_done not_sink = absurd leaves
 listed_line l (status.TooLarge limit.Records) leaves not_done not_sink = absurd leaves

@@ -102,17 +102,17 @@ no_start scene (error.TooLarge limit.Records) cause playable because = absurd ca
 no_start scene (error.TooLarge limit.Moved) cause playable because = absurd cause
 no_start scene (error.TooLarge limit.Blocks) cause playable because =
     let image = image_at (site_of scene) in
-    let many : 262144 < length image = because.says playable.disk_tells in absurd (let few : length image ≤ 262144 = playable.few in omega (arith, many, few))
+    let many : 262144 < length image = because.says.told playable.disk_tells in absurd (let few : length image ≤ 262144 = playable.few in omega (arith, many, few))
 no_start scene (error.TooLarge limit.Table) cause playable because =
     let on = playable.on_image in
-    absurd ((table_excludes (image_at (site_of scene)) playable.which on.disk_id playable.layout.first_usable playable.layout.last_usable playable.layout.entries on.table).1 (because.says playable.disk_tells).1)
+    absurd ((table_excludes (image_at (site_of scene)) playable.which on.disk_id playable.layout.first_usable playable.layout.last_usable playable.layout.entries on.table).1 (because.says.told playable.disk_tells).1)
 no_start scene error.NoTable cause playable because =
     let on = playable.on_image in
-    absurd ((table_excludes (image_at (site_of scene)) playable.which on.disk_id playable.layout.first_usable playable.layout.last_usable playable.layout.entries on.table).0 (because.says playable.disk_tells).1)
+    absurd ((table_excludes (image_at (site_of scene)) playable.which on.disk_id playable.layout.first_usable playable.layout.last_usable playable.layout.entries on.table).0 (because.says.told playable.disk_tells).1)
 no_start scene (error.NoPart session part) cause playable because =
     let same = same_plans scene.playing.size scene.playing.making scene.source scene.new_source playable.plans because.plans playable.script because.script in
     absurd (lacks_none (image_at (site_of scene)) playable.which playable.layout (parts_of playable.plans) session part playable.on_image playable.served
-    (subst (λ (plans : List SessionPlan). LacksPart (image_at (site_of scene)) (parts_of plans) session part) same (because.says playable.disk_tells).1))
+    (subst (λ (plans : List SessionPlan). LacksPart (image_at (site_of scene)) (parts_of plans) session part) same (because.says.told playable.disk_tells).1))
 
 -- ---- the end
 

@@ -1,10 +1,16 @@
 -- What a start gives to the sessions that are played on it.
-use Rattle.std.proofs.Common.{◌≡◌, ℕ, ◌+◌, ◌≤◌, List, length, map, Result, Ok, Err, sym, ◌∙◌, ap}
-use Rattle.std.specs.Prelude.{All, IfOk}
+use Rattle.std.proofs.Common.{◌≡◌, ℕ, ◌+◌, ◌≤◌, List, length, map, Option, Some, None, Result, Ok, Err, refl, sym, ◌∙◌, ap, subst}
+use Rattle.std.specs.Prelude.{◌↔◌, All, IfOk, IfSome, IsSome}
 use Rattle.std.proofs.lemmas.List.{length-map}
 use Rattle.std.proofs.lemmas.List.Elements.{All-map}
 use Rattle.host_block.specs.declared.range.Range.{Range}
+use Rattle.host_io.specs.Flat.{image_of}
+use Rattle.host_io.specs.MemDisk.{opening_of}
+use Rattle.host_io.specs.declared.mem_disk.MemDisk.{MemDisk}
+use Rattle.host_run.specs.Scene.{opening_image}
+use Rattle.host_start.specs.Copies.{image_in}
 use Rattle.host_start.specs.Images.{parts_of}
+use Rattle.host_start.specs.declared.copy.ImageCopy.{ImageCopy}
 use Rattle.host_start.specs.declared.places.Place.{Place}
 use Rattle.script_model.specs.Plans.{SessionPlan}
 
@@ -30,3 +36,12 @@ on_two (Err e) P Q R from p q = tt
 pub on_one : {T E : Type 0} (r : Result T E) (P Q : T → Type 0) → ((t : T) → P t → Q t) → IfOk r P → IfOk r Q
 on_one (Ok t) P Q from p = from t p
 on_one (Err e) P Q from p = tt
+
+-- ---- a copy that is handed out
+
+-- what holds of the image of a copy holds of what its disk opened with
+pub of_its_disk : (P : List (List ℕ) → Type 0) (size : ℕ) (copy : Option ImageCopy) (disk : Option MemDisk) → IsSome disk ↔ IsSome copy → IfSome disk (λ (d : MemDisk). IfSome copy (λ (c : ImageCopy). d ≡ c.disk))
+    → IfSome copy (λ (c : ImageCopy). c.size ≡ size) → IfSome copy (λ (c : ImageCopy). P (image_in c)) → IfSome disk (λ (d : MemDisk). P (opening_image size d))
+of_its_disk P size copy None both same sized holds = tt
+of_its_disk P size None (Some d) both same sized holds = absurd (cc (both.0 refl))
+of_its_disk P size (Some c) (Some d) both same sized holds = subst P (λ i. image_of (sized i) (opening_of (sym same i))) holds

@@ -3,14 +3,14 @@ use Rattle.std.specs.Prelude.{◌≡◌, ◌⊎◌, ℕ, IsTrue, List, Option, S
 use Rattle.host_gpt.specs.declared.which.Which.{Which}
 use Rattle.host_part.specs.Served.{Layout}
 use Rattle.host_report.specs.declared.report.Report.{Report}
-use Rattle.host_run.specs.Played.{HasNoFaults, IsPlayOf}
+use Rattle.host_run.specs.Played.{HasNoFaults, IsPlayOf, SaysCause}
 use Rattle.host_run.specs.Refusals.{start_status}
 use Rattle.host_run.specs.Scene.{Scene, image_at, site_of}
 use Rattle.host_run.specs.Seen.{DiskFaulted, SinkFaulted, SourceSeen}
 use Rattle.host_run.specs.Words.{Making, plans_made}
 use Rattle.host_run.specs.declared.status.RunStatus.{RunStatus}
 use Rattle.host_run.specs.declared.status.RunStatus.TheVariants.{Done, OutOfMemory}
-use Rattle.host_start.specs.Images.{IsLayoutOn, IsServedPart, IsSmallEnough, SaysOfImage, parts_of}
+use Rattle.host_start.specs.Images.{IsLayoutOn, IsServedPart, IsSmallEnough, parts_of}
 use Rattle.host_start.specs.Reading.{IsReadAs, IsWithin, Makes, SaysOfScript}
 use Rattle.host_start.specs.Refusals.{IsAfterScript, IsOfScript}
 use Rattle.host_start.specs.declared.error.StartError.{StartError}
@@ -46,12 +46,12 @@ pub record IsNoScript (scene : Scene) (error : StartError) : Type 0 where
   pub cause : IsOfScript error
   pub says : SaysNoScript scene.playing.size scene.playing.making scene.source scene.new_source error
 
--- there is a script, and the error says what of the image, where the disk tells, is the cause that it isn't played
+-- there is a script, and the error says what of the image is the cause that it isn't played
 pub record IsNoStart (scene : Scene) (error : StartError) : Type 0 where
   pub cause : IsAfterScript error
   pub plans : List SessionPlan
   pub script : IsItsScript scene plans
-  pub says : IsTrue scene.disk.shape.tells → SaysOfImage (image_at (site_of scene)) (parts_of plans) error
+  pub says : SaysCause (site_of scene) plans error
 
 -- the status is that of a refusal, which says its cause
 pub record IsRefused (scene : Scene) (status : RunStatus) : Type 0 where

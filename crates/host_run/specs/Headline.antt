@@ -1,6 +1,6 @@
 -- What the report of a run promises.
 use Rattle.std.specs.Prelude.{ℕ, IsTrue, List}
-use Rattle.crash_law.specs.Survival.{KeepsFlushed}
+use Rattle.crash_law.specs.Survival.{KeepsAtEachMoment, KeepsFlushed}
 use Rattle.host_block.specs.Crash.{IsCrashImage}
 use Rattle.host_block.specs.Disk.{IsCrashOf}
 use Rattle.host_model.specs.Changes.{changes_of}
@@ -19,9 +19,11 @@ IsLawfulOn disk report = IsTrue disk.tells → IsLawful disk.image report
 abbrev pub OutlivesCrash : PlayedDisk → Report → Type 0
 OutlivesCrash disk report = IsTrue disk.tells → (left : List (List ℕ)) → IsCrashOf disk.state left → IsCrashImage disk.image (changes_of report.steps.items) left
 
--- in what a crash of the disk leaves has survived what was flushed
+-- What was flushed has survived in what a crash of the disk leaves, and in what the steps made by then allow a crash to leave at
+-- any moment of the run.
 pub record KeepsWhatWasFlushed (disk : PlayedDisk) (report : Report) : Type 0 where
-  pub kept : IsTrue disk.tells → (left : List (List ℕ)) → IsCrashOf disk.state left → KeepsFlushed disk.image report left
+  pub kept : IsTrue disk.tells → (left : List (List ℕ)) → IsCrashOf disk.state left → KeepsFlushed disk.image report report.steps.items left
+  pub moments : IsTrue disk.tells → KeepsAtEachMoment disk.image report
 
 -- **The headline of a run.**
 pub record Headline (scene : Scene) (report : Report) : Type 0 where
@@ -35,5 +37,6 @@ pub record Headline (scene : Scene) (report : Report) : Type 0 where
   pub lawful : IsLawfulOn (played_disk (site_of scene)) report
   -- A crash of the disk that was played on leaves what the report's steps allow.
   pub outlives : OutlivesCrash (played_disk (site_of scene)) report
-  -- In it has survived each write and trim that was answered before an acknowledged flush was sent.
+  -- In it has survived, and would have at every moment before, each step that didn't fail of each write and trim that was answered
+  -- before an acknowledged flush was sent.
   pub keeps : KeepsWhatWasFlushed (played_disk (site_of scene)) report

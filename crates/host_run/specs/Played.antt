@@ -1,5 +1,5 @@
 -- What playing a script leaves.
-use Rattle.std.specs.Prelude.{◌≡◌, ◌↔◌, ◌≤◌, ℕ, Bool, true, false, IsTrue, List, map, Option, Some, None, IsSome, IfSome}
+use Rattle.std.specs.Prelude.{◌≡◌, ◌↔◌, ◌≤◌, ℕ, Bool, true, false, not, IsTrue, List, length, map, Option, Some, None, IsSome, IfSome}
 use Rattle.host_block.specs.declared.range.Range.{Range}
 use Rattle.host_device.specs.Faults.{RoseBy, faulted_count}
 use Rattle.host_io.specs.declared.mem_disk.MemDisk.{MemDisk}
@@ -8,8 +8,8 @@ use Rattle.host_report.specs.declared.closing.Closing.TheVariants.{Cut as WasCut
 use Rattle.host_report.specs.declared.report.Report.{Report}
 use Rattle.host_run.specs.Scene.{Site, image_at, opening_image}
 use Rattle.host_run.specs.Seen.{DiskFaulted, WasRead}
-use Rattle.host_start.specs.Images.{SaysOfImage, parts_of}
-use Rattle.host_start.specs.Refusals.{IsAfterScript, IsOfContent}
+use Rattle.host_start.specs.Images.{IsOpened, SaysOfBlocks, SaysOfImage, parts_of}
+use Rattle.host_start.specs.Refusals.{IsAfterAttach, IsAfterScript, IsOfContent}
 use Rattle.host_start.specs.declared.error.StartError.{StartError}
 use Rattle.host_start.specs.declared.error.StartError.TheVariants.{Disk as DiskFails}
 use Rattle.script_model.specs.Plans.{SessionPlan}
@@ -37,11 +37,22 @@ HasNoFaults report = faulted_count report.steps.items ≡ 0
 abbrev pub IsOpenedThere : Site → Type 0
 IsOpenedThere site = IsTrue site.disk.shape.tells → IfSome site.copy (λ copy. opening_image site.size copy ≡ image_at site)
 
+-- the image is attached to the disk that was handed in: to be written where that is played on, to be read alone where a copy is
+abbrev pub IsOpenedFor : Site → Type 0
+IsOpenedFor site = IsOpened site.size (not site.on_copy) site.new_disk.shape
+
+-- a copy has as many blocks as the disk, whether or not that tells
+abbrev pub HasItsBlocks : Site → Type 0
+HasItsBlocks site = IfSome site.copy (λ copy. length (opening_image site.size copy) ≡ site.new_disk.shape.blocks)
+
 -- What a run leaves of the disk and of the copy, and what its report tells of them.
 pub record LeavesPlayed (site : Site) (cut : Bool) (report : Report) : Type 0 where
   pub size_is : report.size ≡ site.size
   -- no image of more blocks than this is played
   pub few : report.blocks ≤ 262144
+  -- the blocks are the disk's own, whether or not it tells, and the image is attached there
+  pub own_blocks : report.blocks ≡ site.new_disk.shape.blocks
+  pub attached : IsOpenedFor site
   -- the closing flush was left out exactly where that is asked for
   pub cut_is : (report.closing ≡ WasCut) ↔ IsTrue cut
   -- there is a copy exactly where that is asked for
@@ -70,10 +81,21 @@ abbrev pub HandsCopy : Bool → Option MemDisk → StartError → Type 0
 HandsCopy true copy error = IsSome copy ↔ IsOfContent error
 HandsCopy false copy error = copy ≡ None
 
+-- What an error says that refuses these plans.
+pub record SaysCause (site : Site) (plans : List SessionPlan) (error : StartError) : Type 0 where
+  -- of the image that the disk held, where it tells
+  pub told : IsTrue site.disk.shape.tells → SaysOfImage (image_at site) (parts_of plans) error
+  -- of the image that the copy opened with, where one is handed out: whether or not the disk tells
+  pub found : IfSome site.copy (λ copy. SaysOfImage (opening_image site.size copy) (parts_of plans) error)
+  pub found_blocks : HasItsBlocks site
+  -- of the number of blocks that the disk has, and how the image is attached there
+  pub blocks : SaysOfBlocks site.new_disk.shape.blocks error
+  pub attached : IsAfterAttach error → IsOpenedFor site
+
 -- What is left there where these plans weren't played, and why.
 pub record IsNoRun (site : Site) (plans : List SessionPlan) (error : StartError) : Type 0 where
   pub cause : IsAfterScript error
   pub fault : error ≡ DiskFails → DiskFaulted site.disk site.new_disk
-  pub says : IsTrue site.disk.shape.tells → SaysOfImage (image_at site) (parts_of plans) error
+  pub says : SaysCause site plans error
   pub copy_is : HandsCopy site.on_copy site.copy error
   pub left : LeavesUnplayed site

@@ -36,6 +36,7 @@ pub fn list<D: Disk, K: Sink>(
     ensures leaves { ListLeaves (record {
       asked = record { name = image.now; size = size };
       disk = disk_seen D.Disk disk;
+      new_disk = disk_seen D.Disk result.disk;
       sink = sink_seen K.Sink out.old;
       new_sink = sink_seen K.Sink out.new;
     }) result.status }

@@ -48,6 +48,8 @@ pub fn play_start<R: Threads + Wait + Sync, D: Disk + Send, G: Gate + Sync>(
 
     // What became of the disk.
     ensures opening { IfOk result (λ run. D.opening run.disk ≡ D.opening disk) }
+    ensures shape { IfOk result (λ run. D.shape run.disk ≡ D.shape disk) }
+    ensures blocks { IfOk result (λ run. run.report.blocks ≡ start.now.blocks) }
     ensures faults { IfOk result (λ run. RoseBy (faulted_count run.report.steps.items) (D.counts disk).faults (D.counts run.disk).faults) }
     ensures unfailing { IsTrue (D.never_fails disk) → IfOk result (λ run. (D.counts run.disk).faults ≡ (D.counts disk).faults) }
     ensures refused { IfErr result (λ no. no.disk ≡ disk) }

@@ -88,6 +88,7 @@ pub fn run<'a, R: Threads + Wait + Sync, S: Source, D: Disk + Send, K: Sink, G: 
     ensures list { IfSome (listing_in (said_by words.entry.now)) (λ listing. ListLeaves (record {
       asked = listing;
       disk = disk_seen D.Disk disk;
+      new_disk = disk_seen D.Disk result.disk;
       sink = sink_seen K.Sink out.old;
       new_sink = sink_seen K.Sink out.new;
     }) result.status) }

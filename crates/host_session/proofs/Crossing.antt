@@ -24,6 +24,7 @@ use Rattle.host_session.specs.contracts.client.ClientEnd.TheInside as inside
 use Rattle.host_session.specs.contracts.hand.SessionHand as hand
 use Rattle.host_session.specs.contracts.room.ClosingRoom as room
 use Rattle.host_session.specs.contracts.shared.SessionShared as session_shared
+use Rattle.host_log.proofs.Crossing.{ghost_send}
 use Rattle.host_turn.proofs.Crossing.{badge_send, lease_send, lease_sync, table_seat_send, table_send, table_sync}
 
 -- ---- ends of the rings
@@ -52,7 +53,7 @@ buffer_send : IsSend buffer.the_row
 buffer_send = search (sendable, crosses, pages_send) depth 30 fits 10000
 
 pub memory_send : IsSend memory.the_row
-memory_send = search (sendable, crosses, mem_entry_send, buffer_send) depth 40 fits 10000
+memory_send = search (sendable, crosses, mem_entry_send, buffer_send, ghost_send) depth 40 fits 10000
 
 intake_entry_send : IsSend intake_entry.the_row
 intake_entry_send = search (sendable, crosses) depth 30 fits 10000
@@ -64,7 +65,7 @@ slip_send : IsSend slip.the_row
 slip_send = search (sendable, crosses) depth 30 fits 10000
 
 ledger_send : IsSend ledger.the_row
-ledger_send = search (sendable, crosses, intake_entry_send, row_send, slip_send) depth 40 fits 10000
+ledger_send = search (sendable, crosses, intake_entry_send, row_send, slip_send, ghost_send) depth 40 fits 10000
 
 waiting_send : IsSend waiting.the_row
 waiting_send = search (sendable, crosses, table_seat_send) depth 30 fits 10000
@@ -91,7 +92,7 @@ closing_send = search (sendable, crosses, table_seat_send, intake_send, memory_s
 client_inside_send : IsSend inside.the_row
 client_inside_send =
     let T = inside.the_type in
-    let all : AllSend (shape T).fields = (search (sendable, crosses) depth 30 fits 10000, (search (sendable, crosses) depth 30 fits 10000, (search (sendable, crosses) depth 30 fits 10000, (search (sendable, crosses) depth 30 fits 10000, (search (sendable, crosses) depth 30 fits 10000, (search (sendable, crosses, event_send) depth 30 fits 10000, (search (sendable, crosses) depth 30 fits 10000, (search (sendable, crosses) depth 30 fits 10000, (search (sendable, crosses) depth 30 fits 10000, (search (sendable, crosses) depth 30 fits 10000, (search (sendable, crosses) depth 30 fits 10000, (search (sendable, crosses) depth 30 fits 10000, (search (sendable, crosses) depth 30 fits 10000, (search (sendable, table_seat_send, intake_send) depth 20, (search (sendable, table_seat_send, memory_send) depth 20, (sender_send, (slip_taker_send, (closing_send, tt)))))))))))))))))) in
+    let all : AllSend (shape T).fields = (search (sendable, crosses) depth 30 fits 10000, (search (sendable, crosses) depth 30 fits 10000, (search (sendable, crosses) depth 30 fits 10000, (search (sendable, crosses) depth 30 fits 10000, (search (sendable, crosses) depth 30 fits 10000, (search (sendable, crosses, event_send, ghost_send) depth 40 fits 10000, (search (sendable, crosses) depth 30 fits 10000, (search (sendable, crosses) depth 30 fits 10000, (search (sendable, crosses) depth 30 fits 10000, (search (sendable, crosses) depth 30 fits 10000, (search (sendable, crosses) depth 30 fits 10000, (search (sendable, crosses) depth 30 fits 10000, (search (sendable, crosses) depth 30 fits 10000, (search (sendable, table_seat_send, intake_send) depth 20, (search (sendable, table_seat_send, memory_send) depth 20, (sender_send, (slip_taker_send, (closing_send, tt)))))))))))))))))) in
     recorded_send (Struct (shape T)) T.D T.to T.to_one (struct_send (shape T) all)
 
 pub client_send : IsSend client.the_row

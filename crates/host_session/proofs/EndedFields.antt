@@ -3,7 +3,7 @@ use Rattle.std.proofs.Common.{◌≡◌, ℕ, ◌≤◌, max, Bool, true, false,
 use Rattle.std.proofs.lemmas.Bool.{ltb-false}
 use Rattle.std.proofs.lemmas.Bool.Decides.{nat_tests}
 use Rattle.atomic_table.specs.Seated.{TableId}
-use Rattle.host_block.specs.Room.{WithRoom}
+use Rattle.host_log.specs.Switch.{SwitchedLog}
 use Rattle.host_frames.specs.declared.seat.PoolSeat.{PoolSeat}
 use Rattle.host_intake.specs.declared.entry.IntakeEntry.{IntakeEntry}
 use Rattle.host_intake.specs.Entries.{takings}
@@ -119,7 +119,7 @@ module _ (a : Inside) (k : IsKept a) (running : a.closed ≡ false) (i : IntakeS
       client = subst (λ (x : TableId). IsClient (record (client_state a) { plan = at_books (client_state a).plan x (seat_book m); fronts = record { device = a.fronts.device; memory = known }; intake_seat = i; memory_seat = m })) (sym t.turn.seat.0.0)
           (subst (λ (x : TableId). IsClient (record (client_state a) { plan = at_books (client_state a).plan (seat_book a.intake_seat) x; fronts = record { device = a.fronts.device; memory = known }; intake_seat = i; memory_seat = m })) (sym t.same.0.0)
           (kept_open (client_state a) k.client running i m p p' wanted known t));
-      counted = record { sent = k.counted.sent; received = k.counted.received; given = k.counted.given; owed = k.counted.owed; room = k.counted.room };
+      counted = record { sent = k.counted.sent; received = k.counted.received; given = k.counted.given; owed = k.counted.owed; room = k.counted.room; keeps = k.counted.keeps };
       closing = k.closing;
     }
 
@@ -152,15 +152,15 @@ module _ (a : Inside) (k : IsKept a) (running : a.closed ≡ false) (i : IntakeS
       client = subst (λ (x : TableId). IsClient (record (client_state a) { plan = at_books (client_state a).plan x (seat_book m); closed = true; fronts = record { device = a.fronts.device; memory = known }; intake_seat = i; memory_seat = m })) (sym t.turn.seat.0.0)
           (subst (λ (x : TableId). IsClient (record (client_state a) { plan = at_books (client_state a).plan (seat_book a.intake_seat) x; closed = true; fronts = record { device = a.fronts.device; memory = known }; intake_seat = i; memory_seat = m })) (sym t.released.visit.seat.0.0)
           (kept_closed_after_abort (client_state a) k.client running i m p p' wanted known t aborted over));
-      counted = record { sent = k.counted.sent; received = k.counted.received; given = k.counted.given; owed = k.counted.owed; room = k.counted.room };
+      counted = record { sent = k.counted.sent; received = k.counted.received; given = k.counted.given; owed = k.counted.owed; room = k.counted.room; keeps = k.counted.keeps };
       closing = k.closing;
     }
 
-    pub drain_kept : (l : WithRoom Event) → l ≡ record a.log { items = a.log.items ++ Drained ∷ [] } → is_drained a.finish ≡ true → IsKept (record a { log = l; closed = true; fronts = record { device = a.fronts.device; memory = known }; intake_seat = i; memory_seat = m })
+    pub drain_kept : (l : SwitchedLog Event) → l ≡ record a.log { items = a.log.items ++ Drained ∷ [] } → is_drained a.finish ≡ true → IsKept (record a { log = l; closed = true; fronts = record { device = a.fronts.device; memory = known }; intake_seat = i; memory_seat = m })
     drain_kept l log_is drained =
-        let items : l.items ≡ a.log.items ++ Drained ∷ [] = ap (λ (x : WithRoom Event). x.items) log_is in
+        let items : l.items ≡ a.log.items ++ Drained ∷ [] = ap (λ (x : SwitchedLog Event). x.items) log_is in
         record {
-          client = subst (λ (x : WithRoom Event). IsClient (client_state (record a { log = x; closed = true; fronts = record { device = a.fronts.device; memory = known }; intake_seat = i; memory_seat = m }))) (sym log_is)
+          client = subst (λ (x : SwitchedLog Event). IsClient (client_state (record a { log = x; closed = true; fronts = record { device = a.fronts.device; memory = known }; intake_seat = i; memory_seat = m }))) (sym log_is)
               (subst (λ (x : TableId). IsClient (record (client_state a) { plan = at_books (client_state a).plan x (seat_book m); log = a.log.items ++ Drained ∷ []; closed = true; fronts = record { device = a.fronts.device; memory = known }; intake_seat = i; memory_seat = m })) (sym t.turn.seat.0.0)
               (subst (λ (x : TableId). IsClient (record (client_state a) { plan = at_books (client_state a).plan (seat_book a.intake_seat) x; log = a.log.items ++ Drained ∷ []; closed = true; fronts = record { device = a.fronts.device; memory = known }; intake_seat = i; memory_seat = m })) (sym t.released.visit.seat.0.0)
               (kept_closed_after_drain (client_state a) k.client running i m p p' wanted known t drained (over.answered drained) over)));
@@ -169,12 +169,13 @@ module _ (a : Inside) (k : IsKept a) (running : a.closed ≡ false) (i : IntakeS
             received = k.counted.received ∙ sym (ap (λ x. length (received x)) items ∙ ap length (found_none received_bytes a.log.items Drained refl));
             given = k.counted.given ∙ sym (ap (λ x. length (given x)) items ∙ ap length (found_none given_id a.log.items Drained refl));
             owed = k.counted.owed ∙ sym (ap owed_count items ∙ ap (λ rs. length (owed rs)) (requests_quiet a.log.items Drained refl));
-            room = ap (λ (x : WithRoom Event). x.room) log_is ∙ k.counted.room;
+            room = ap (λ (x : SwitchedLog Event). x.room) log_is ∙ k.counted.room;
+            keeps = ap (λ (x : SwitchedLog Event). x.kept) log_is ∙ k.counted.keeps;
           };
           closing = k.closing;
         }
 
-    pub closed_answer : (l : WithRoom Event) → l.items ≡ a.log.items ++ closing_event a.finish
+    pub closed_answer : (l : SwitchedLog Event) → l.items ≡ a.log.items ++ closing_event a.finish
         → ((client_state a).closed ≡ false) × IsClosing (client_state a) (client_state (record a { log = l; closed = true; fronts = record { device = a.fronts.device; memory = known }; intake_seat = i; memory_seat = m })) p p'
     closed_answer l items = (
       running,

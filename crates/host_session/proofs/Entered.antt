@@ -3,7 +3,7 @@ use Rattle.std.proofs.Common.{◌≡◌, ℕ, suc, ◌+◌, ◌*◌, ◌≤◌, 
 use Rattle.std.specs.List.{list_all}
 use Rattle.std.specs.Option.{unwrap_or}
 use Rattle.atomic_table.specs.Seated.{TableId}
-use Rattle.host_block.specs.Room.{WithRoom}
+use Rattle.host_log.specs.Switch.{SwitchedLog}
 use Rattle.host_intake.specs.State.{MemorySeat}
 use Rattle.host_memory.specs.declared.limits.MemoryPlan.{MemoryPlan}
 use Rattle.host_memory.specs.Entries.{is_attach, is_fill_or_show, used_room}
@@ -146,20 +146,20 @@ abbrev pub at_memory : SessionPlan → TableId → SessionPlan
 at_memory p book = record p { memory = book }
 
 module _ (a : Inside) (q : MemorySeat) (ev : Event) (book : seat_book q ≡ seat_book a.memory_seat) where
-  pub visit_left : (l : WithRoom Event) (front given' : ℕ) → l ≡ record a.log { items = a.log.items ++ ev ∷ [] } → front ≡ length (seen_by q)
+  pub visit_left : (l : SwitchedLog Event) (front given' : ℕ) → l ≡ record a.log { items = a.log.items ++ ev ∷ [] } → front ≡ length (seen_by q)
       → client_state (record a { log = l; given = given'; fronts = record { device = a.fronts.device; memory = front }; memory_seat = q }) ≡ with_event (with_visit (client_state a) q) ev
   visit_left l front given' log_is front_is =
-      ap (λ (x : WithRoom Event). client_state (record a { log = x; given = given'; fronts = record { device = a.fronts.device; memory = front }; memory_seat = q })) log_is
+      ap (λ (x : SwitchedLog Event). client_state (record a { log = x; given = given'; fronts = record { device = a.fronts.device; memory = front }; memory_seat = q })) log_is
       ∙ (ap (λ (n : ℕ). client_state (record a { log = record a.log { items = a.log.items ++ ev ∷ [] }; given = given'; fronts = record { device = a.fronts.device; memory = n }; memory_seat = q })) front_is
       ∙ ap (λ (b : TableId). record (with_event (with_visit (client_state a) q) ev) { plan = at_memory (client_state a).plan b }) book)
 
 module _ (a : Inside) (k : IsKept a) (q : MemorySeat) (ev : Event) (is : IsClient (with_event (with_visit (client_state a) q) ev)) (book : seat_book q ≡ seat_book a.memory_seat) where
-  pub visit_kept : (l : WithRoom Event) (front given' : ℕ) → l ≡ record a.log { items = a.log.items ++ ev ∷ [] } → front ≡ length (seen_by q) → sent_bytes ev ≡ None → received_bytes ev ≡ None → given' ≡ length (given (a.log.items ++ ev ∷ []))
+  pub visit_kept : (l : SwitchedLog Event) (front given' : ℕ) → l ≡ record a.log { items = a.log.items ++ ev ∷ [] } → front ≡ length (seen_by q) → sent_bytes ev ≡ None → received_bytes ev ≡ None → given' ≡ length (given (a.log.items ++ ev ∷ []))
       → IsKept (record a { log = l; given = given'; fronts = record { device = a.fronts.device; memory = front }; memory_seat = q })
   visit_kept l front given' log_is front_is sends receives given_is =
-      let items : l.items ≡ a.log.items ++ ev ∷ [] = ap (λ (x : WithRoom Event). x.items) log_is in
+      let items : l.items ≡ a.log.items ++ ev ∷ [] = ap (λ (x : SwitchedLog Event). x.items) log_is in
       record {
-        client = subst (λ (x : WithRoom Event). IsClient (client_state (record a { log = x; given = given'; fronts = record { device = a.fronts.device; memory = front }; memory_seat = q }))) (sym log_is)
+        client = subst (λ (x : SwitchedLog Event). IsClient (client_state (record a { log = x; given = given'; fronts = record { device = a.fronts.device; memory = front }; memory_seat = q }))) (sym log_is)
             (subst (λ (n : ℕ). IsClient (client_state (record a { log = record a.log { items = a.log.items ++ ev ∷ [] }; given = given'; fronts = record { device = a.fronts.device; memory = n }; memory_seat = q }))) (sym front_is)
             (subst (λ (b : TableId). IsClient (record (with_event (with_visit (client_state a) q) ev) { plan = at_memory (client_state a).plan b })) (sym book) is));
         counted = record {
@@ -167,7 +167,8 @@ module _ (a : Inside) (k : IsKept a) (q : MemorySeat) (ev : Event) (is : IsClien
           received = k.counted.received ∙ sym (ap (λ x. length (received x)) items ∙ ap length (found_none received_bytes a.log.items ev receives));
           given = given_is ∙ sym (ap (λ x. length (given x)) items);
           owed = k.counted.owed ∙ sym (ap owed_count items ∙ ap (λ rs. length (owed rs)) (requests_quiet a.log.items ev sends));
-          room = ap (λ (x : WithRoom Event). x.room) log_is ∙ k.counted.room;
+          room = ap (λ (x : SwitchedLog Event). x.room) log_is ∙ k.counted.room;
+          keeps = ap (λ (x : SwitchedLog Event). x.kept) log_is ∙ k.counted.keeps;
         };
         closing = k.closing;
       }

@@ -1,7 +1,7 @@
 -- What is true of a client end stays true as it ends its session.
 use Rattle.std.proofs.Common.{◌≡◌, true, false, not, List, [], ◌∷◌, ◌++◌, length, filter, Some, None, refl, sym, ap, subst, ◌∙◌, arith}
 use Rattle.atomic_table.specs.Seated.{TableId}
-use Rattle.host_block.specs.Room.{WithRoom}
+use Rattle.host_log.specs.Switch.{SwitchedLog}
 use Rattle.host_intake.specs.declared.entry.IntakeEntry.TheVariants.{Turned}
 use Rattle.host_intake.specs.declared.entry.Phase.TheVariants as phase
 use Rattle.host_model.specs.declared.event.Event.{Event}
@@ -108,22 +108,23 @@ module _ (a : Inside) (k : IsKept a) (running : a.finish ≡ None) (q : IntakeSe
   pub draining_kept : HasTurned a.hands phase.Draining a.intake_seat q → IsKept (record a { finish = Some Drain; intake_seat = q })
   draining_kept t = record {
     client = subst (λ (b : TableId). IsClient (record (client_state a) { plan = at_intake (client_state a).plan b; finish = Some Drain; intake_seat = q })) (sym same) (kept_draining (client_state a) k.client running q t);
-    counted = record { sent = k.counted.sent; received = k.counted.received; given = k.counted.given; owed = k.counted.owed; room = k.counted.room };
+    counted = record { sent = k.counted.sent; received = k.counted.received; given = k.counted.given; owed = k.counted.owed; room = k.counted.room; keeps = k.counted.keeps };
     closing = k.closing;
   }
 
-  pub aborted_kept : (l : WithRoom Event) → l ≡ record a.log { items = a.log.items ++ Aborted ∷ [] } → HasTurned a.hands phase.Aborted a.intake_seat q → IsKept (record a { log = l; finish = Some Abort; intake_seat = q })
+  pub aborted_kept : (l : SwitchedLog Event) → l ≡ record a.log { items = a.log.items ++ Aborted ∷ [] } → HasTurned a.hands phase.Aborted a.intake_seat q → IsKept (record a { log = l; finish = Some Abort; intake_seat = q })
   aborted_kept l log_is t =
-      let items : l.items ≡ a.log.items ++ Aborted ∷ [] = ap (λ (x : WithRoom Event). x.items) log_is in
+      let items : l.items ≡ a.log.items ++ Aborted ∷ [] = ap (λ (x : SwitchedLog Event). x.items) log_is in
       record {
-        client = subst (λ (x : WithRoom Event). IsClient (client_state (record a { log = x; finish = Some Abort; intake_seat = q }))) (sym log_is)
+        client = subst (λ (x : SwitchedLog Event). IsClient (client_state (record a { log = x; finish = Some Abort; intake_seat = q }))) (sym log_is)
             (subst (λ (b : TableId). IsClient (record (client_state a) { plan = at_intake (client_state a).plan b; log = a.log.items ++ Aborted ∷ []; finish = Some Abort; intake_seat = q })) (sym same) (kept_aborted (client_state a) k.client running q t));
         counted = record {
           sent = k.counted.sent ∙ sym (ap (λ x. length (sent x)) items ∙ ap length (found_none sent_bytes a.log.items Aborted refl));
           received = k.counted.received ∙ sym (ap (λ x. length (received x)) items ∙ ap length (found_none received_bytes a.log.items Aborted refl));
           given = k.counted.given ∙ sym (ap (λ x. length (given x)) items ∙ ap length (found_none given_id a.log.items Aborted refl));
           owed = k.counted.owed ∙ sym (ap owed_count items ∙ ap (λ rs. length (owed rs)) (requests_quiet a.log.items Aborted refl));
-          room = ap (λ (x : WithRoom Event). x.room) log_is ∙ k.counted.room;
+          room = ap (λ (x : SwitchedLog Event). x.room) log_is ∙ k.counted.room;
+          keeps = ap (λ (x : SwitchedLog Event). x.kept) log_is ∙ k.counted.keeps;
         };
         closing = k.closing;
       }

@@ -1,7 +1,7 @@
 -- The fields of a client end, once a call that doesn't visit the buffers changed them.
 use Rattle.std.proofs.Common.{◌≡◌, ℕ, ◌+◌, ◌≤◌, ◌<◌, Bool, true, false, cond, IsTrue, List, [], ◌∷◌, ◌++◌, length, Option, Some, None, is_some, refl, sym, ap, subst, ◌∙◌, arith, length-append}
 use Rattle.std.proofs.lemmas.List.{length-map}
-use Rattle.host_block.specs.Room.{WithRoom}
+use Rattle.host_log.specs.Switch.{SwitchedLog}
 use Rattle.host_record.specs.declared.finish.Finish.{Finish}
 use Rattle.host_record.specs.declared.finish.Finish.TheVariants.{Drain, Abort}
 use Rattle.host_record.specs.Request.{request_of}
@@ -50,7 +50,7 @@ module _ (a : Inside) (k : IsKept a) where
   owed_fits few = omega (arith, few, k.counted.owed, owed_few (requests a.log.items), length-map (sent a.log.items) request_of)
 
   -- a record was sent
-  pub sent_kept : (bytes : List ℕ) (l : WithRoom Event) (q : SenderState) (owed' : ℕ) → a.finish ≡ None → length (sent a.log.items) < a.spec.records → 1 ≤ room_left (client_state a)
+  pub sent_kept : (bytes : List ℕ) (l : SwitchedLog Event) (q : SenderState) (owed' : ℕ) → a.finish ≡ None → length (sent a.log.items) < a.spec.records → 1 ≤ room_left (client_state a)
       → l ≡ record a.log { items = a.log.items ++ Sent a.sent bytes ∷ [] }
       → q ≡ with_pushed a.sender (record { bytes = bytes; index = a.sent; device_front = a.fronts.device; memory_front = a.fronts.memory })
       → owed' ≡ a.owed + cond (is_owing (request_of bytes)) 1 0
@@ -59,43 +59,45 @@ module _ (a : Inside) (k : IsKept a) where
       let n : ℕ = length (sent a.log.items) in
       let e : Event = Sent a.sent bytes in
       let log' : List Event = a.log.items ++ e ∷ [] in
-      let items : l.items ≡ log' = ap (λ (x : WithRoom Event). x.items) log_is in
+      let items : l.items ≡ log' = ap (λ (x : SwitchedLog Event). x.items) log_is in
       let base : IsClient (record (client_state a) { log = a.log.items ++ Sent n bytes ∷ []; sender = with_pushed a.sender (next_envelope a.log.items bytes a.fronts) }) = kept_sent (client_state a) k.client bytes running few room in
       let named : IsClient (record (client_state a) { log = log'; sender = with_pushed a.sender (record { bytes = bytes; index = a.sent; device_front = a.fronts.device; memory_front = a.fronts.memory }) }) =
       subst (λ (i : ℕ). IsClient (record (client_state a) { log = a.log.items ++ Sent i bytes ∷ []; sender = with_pushed a.sender (record { bytes = bytes; index = i; device_front = a.fronts.device; memory_front = a.fronts.memory }) })) (sym k.counted.sent) base in
       record {
         client = subst (λ (x : SenderState). IsClient (client_state (record a { log = l; sent = a.sent + 1; owed = owed'; sender = x }))) (sym sender_is)
-            (subst (λ (x : WithRoom Event). IsClient (client_state (record a { log = x; sent = a.sent + 1; owed = owed'; sender = with_pushed a.sender (record { bytes = bytes; index = a.sent; device_front = a.fronts.device; memory_front = a.fronts.memory }) }))) (sym log_is) named);
+            (subst (λ (x : SwitchedLog Event). IsClient (client_state (record a { log = x; sent = a.sent + 1; owed = owed'; sender = with_pushed a.sender (record { bytes = bytes; index = a.sent; device_front = a.fronts.device; memory_front = a.fronts.memory }) }))) (sym log_is) named);
         counted = record {
           sent = omega (arith, k.counted.sent, ap (λ x. length (sent x)) items, ap length (found_one sent_bytes a.log.items e bytes refl), length-append (sent a.log.items) (bytes ∷ []));
           received = k.counted.received ∙ sym (ap (λ x. length (received x)) items ∙ ap length (found_none received_bytes a.log.items e refl));
           given = k.counted.given ∙ sym (ap (λ x. length (given x)) items ∙ ap length (found_none given_id a.log.items e refl));
           owed = owed_is ∙ (ap (λ m. m + cond (is_owing (request_of bytes)) 1 0) k.counted.owed
               ∙ sym (ap owed_count items ∙ (ap (λ rs. length (owed rs)) (requests_sent a.log.items a.sent bytes) ∙ owed_more (requests a.log.items) (request_of bytes))));
-          room = ap (λ (x : WithRoom Event). x.room) log_is ∙ k.counted.room;
+          room = ap (λ (x : SwitchedLog Event). x.room) log_is ∙ k.counted.room;
+          keeps = ap (λ (x : SwitchedLog Event). x.kept) log_is ∙ k.counted.keeps;
         };
         closing = k.closing;
       }
 
   -- an answer was received
-  pub received_kept : (thrown : List Slip) (slip : Slip) (l : WithRoom Event) (f : Fronts) (t : SlipTakerState) → is_aborted a.finish ≡ false → IsTrue (is_answer a.sent slip) → 1 ≤ room_left (client_state a)
+  pub received_kept : (thrown : List Slip) (slip : Slip) (l : SwitchedLog Event) (f : Fronts) (t : SlipTakerState) → is_aborted a.finish ≡ false → IsTrue (is_answer a.sent slip) → 1 ≤ room_left (client_state a)
       → l ≡ record a.log { items = a.log.items ++ Received slip.bytes ∷ [] } → f ≡ greater a.fronts (slip_fronts slip) → t ≡ with_slips a.taker (thrown ++ slip ∷ [])
       → IsKept (record a { log = l; received = a.received + 1; fronts = f; taker = t })
   received_kept thrown slip l f t not_aborted answers room log_is fronts_are taker_is =
       let e : Event = Received slip.bytes in
-      let items : l.items ≡ a.log.items ++ e ∷ [] = ap (λ (x : WithRoom Event). x.items) log_is in
+      let items : l.items ≡ a.log.items ++ e ∷ [] = ap (λ (x : SwitchedLog Event). x.items) log_is in
       let base : IsClient (record (client_state a) { log = a.log.items ++ e ∷ []; fronts = greater a.fronts (slip_fronts slip); taker = with_slips a.taker (thrown ++ slip ∷ []) }) =
       kept_received (client_state a) k.client thrown slip not_aborted (subst (λ n. IsTrue (is_answer n slip)) k.counted.sent answers) room in
       record {
         client = subst (λ (x : SlipTakerState). IsClient (client_state (record a { log = l; received = a.received + 1; fronts = f; taker = x }))) (sym taker_is)
             (subst (λ (x : Fronts). IsClient (client_state (record a { log = l; received = a.received + 1; fronts = x; taker = with_slips a.taker (thrown ++ slip ∷ []) }))) (sym fronts_are)
-            (subst (λ (x : WithRoom Event). IsClient (client_state (record a { log = x; received = a.received + 1; fronts = greater a.fronts (slip_fronts slip); taker = with_slips a.taker (thrown ++ slip ∷ []) }))) (sym log_is) base));
+            (subst (λ (x : SwitchedLog Event). IsClient (client_state (record a { log = x; received = a.received + 1; fronts = greater a.fronts (slip_fronts slip); taker = with_slips a.taker (thrown ++ slip ∷ []) }))) (sym log_is) base));
         counted = record {
           sent = k.counted.sent ∙ sym (ap (λ x. length (sent x)) items ∙ ap length (found_none sent_bytes a.log.items e refl));
           received = omega (arith, k.counted.received, ap (λ x. length (received x)) items, ap length (found_one received_bytes a.log.items e slip.bytes refl), length-append (received a.log.items) (slip.bytes ∷ []));
           given = k.counted.given ∙ sym (ap (λ x. length (given x)) items ∙ ap length (found_none given_id a.log.items e refl));
           owed = k.counted.owed ∙ sym (ap owed_count items ∙ ap (λ rs. length (owed rs)) (requests_quiet a.log.items e refl));
-          room = ap (λ (x : WithRoom Event). x.room) log_is ∙ k.counted.room;
+          room = ap (λ (x : SwitchedLog Event). x.room) log_is ∙ k.counted.room;
+          keeps = ap (λ (x : SwitchedLog Event). x.kept) log_is ∙ k.counted.keeps;
         };
         closing = k.closing;
       }
@@ -104,24 +106,25 @@ module _ (a : Inside) (k : IsKept a) where
   pub thrown_kept : (thrown : List Slip) (t : SlipTakerState) → t ≡ with_slips a.taker thrown → IsKept (record a { taker = t })
   thrown_kept thrown t taker_is = record {
     client = subst (λ (x : SlipTakerState). IsClient (client_state (record a { taker = x }))) (sym taker_is) (kept_thrown (client_state a) k.client thrown);
-    counted = record { sent = k.counted.sent; received = k.counted.received; given = k.counted.given; owed = k.counted.owed; room = k.counted.room };
+    counted = record { sent = k.counted.sent; received = k.counted.received; given = k.counted.given; owed = k.counted.owed; room = k.counted.room; keeps = k.counted.keeps };
     closing = k.closing;
   }
 
   -- an attach was refused
-  pub refused_kept : (pages : ℕ) (cause : AttachError) (l : WithRoom Event) → a.finish ≡ None → runs_out_rightly a.log.items (NotAttached pages cause) ≡ true → 1 ≤ room_left (client_state a)
+  pub refused_kept : (pages : ℕ) (cause : AttachError) (l : SwitchedLog Event) → a.finish ≡ None → runs_out_rightly a.log.items (NotAttached pages cause) ≡ true → 1 ≤ room_left (client_state a)
       → l ≡ record a.log { items = a.log.items ++ NotAttached pages cause ∷ [] } → IsKept (record a { log = l })
   refused_kept pages cause l running rightly room log_is =
       let e : Event = NotAttached pages cause in
-      let items : l.items ≡ a.log.items ++ e ∷ [] = ap (λ (x : WithRoom Event). x.items) log_is in
+      let items : l.items ≡ a.log.items ++ e ∷ [] = ap (λ (x : SwitchedLog Event). x.items) log_is in
       record {
-        client = subst (λ (x : WithRoom Event). IsClient (client_state (record a { log = x }))) (sym log_is) (kept_refused (client_state a) k.client pages cause running rightly room);
+        client = subst (λ (x : SwitchedLog Event). IsClient (client_state (record a { log = x }))) (sym log_is) (kept_refused (client_state a) k.client pages cause running rightly room);
         counted = record {
           sent = k.counted.sent ∙ sym (ap (λ x. length (sent x)) items ∙ ap length (found_none sent_bytes a.log.items e refl));
           received = k.counted.received ∙ sym (ap (λ x. length (received x)) items ∙ ap length (found_none received_bytes a.log.items e refl));
           given = k.counted.given ∙ sym (ap (λ x. length (given x)) items ∙ ap length (found_none given_id a.log.items e refl));
           owed = k.counted.owed ∙ sym (ap owed_count items ∙ ap (λ rs. length (owed rs)) (requests_quiet a.log.items e refl));
-          room = ap (λ (x : WithRoom Event). x.room) log_is ∙ k.counted.room;
+          room = ap (λ (x : SwitchedLog Event). x.room) log_is ∙ k.counted.room;
+          keeps = ap (λ (x : SwitchedLog Event). x.kept) log_is ∙ k.counted.keeps;
         };
         closing = k.closing;
       }

@@ -96,9 +96,9 @@ module _ (s : ClientState) (log : s.log ≡ []) (finish : s.finish ≡ None) (cl
 
 -- the same by the fields
 pub new_kept : (a : Inside) → IsSeatIn (seat_book a.intake_seat) (intake_plan (client_state a).plan) a.hands a.intake_seat → IsSeatIn (seat_book a.memory_seat) (memory_plan (client_state a).plan) a.hands a.memory_seat
-    → (pool_id a.pool.value).1 ≡ a.spec.size → a.sender.records ≡ a.spec.records → a.taker.senders ≡ a.hands → a.log.items ≡ [] → a.log.room ≡ a.spec.events + 1 → (a.sent ≡ 0) × (a.received ≡ 0) × (a.given ≡ 0) × (a.owed ≡ 0)
+    → (pool_id a.pool.value).1 ≡ a.spec.size → a.sender.records ≡ a.spec.records → a.taker.senders ≡ a.hands → a.log.items ≡ [] → a.log.room ≡ a.spec.events + 1 → a.log.kept ≡ a.spec.keeps → (a.sent ≡ 0) × (a.received ≡ 0) × (a.given ≡ 0) × (a.owed ≡ 0)
     → a.finish ≡ None → a.closed ≡ false → seen_by a.intake_seat ≡ [] → seen_by a.memory_seat ≡ [] → a.sender.pushed ≡ [] → a.taker.taken ≡ [] → HasRoomFor a.hands a.closing → IsKept a
-new_kept a intake memory size records senders log room numbers finish closed taken done pushed got closing = record {
+new_kept a intake memory size records senders log room keeps numbers finish closed taken done pushed got closing = record {
   client = new_client (client_state a) log finish closed taken done pushed got intake memory size (record { sender = (refl, records); taker = (refl, senders) });
   counted = record {
     sent = numbers.0 ∙ sym (ap (λ (l : List Event). length (sent l)) log);
@@ -106,6 +106,7 @@ new_kept a intake memory size records senders log room numbers finish closed tak
     given = numbers.2 ∙ sym (ap (λ (l : List Event). length (given l)) log);
     owed = numbers.3 ∙ sym (ap owed_count log);
     room = room;
+    keeps = keeps;
   };
   closing = closing;
 }
@@ -117,10 +118,10 @@ new_seat_in story fixed b x n m q book plan new name same is = record { book_is 
 -- ---- the plan of an intake that was made for the session
 
 abbrev planned : SessionPlan → ℕ → TableId → TableId → TableId → IntakePlan
-planned p n ring memory cells = record { part = p.spec.part; size = p.spec.size; room = p.spec.records; admissions = n; ring = ring; memory = memory; cells = cells }
+planned p n ring memory cells = record { part = p.spec.part; size = p.spec.size; room = p.spec.records; keeps = p.spec.keeps; admissions = n; ring = ring; memory = memory; cells = cells }
 
 pub intake_plan_is : (p : SessionPlan) (o : IntakeState) (taker : TakerState) (admissions : MemorySeat) (cell_seat : CellSeat)
-    → o ≡ record { part = p.spec.part; size = p.spec.size; room = p.spec.records; entries = []; held = None; waiting = []; taker = taker; memory_seat = admissions; cell_seat = cell_seat }
+    → o ≡ record { part = p.spec.part; size = p.spec.size; room = p.spec.records; keeps = p.spec.keeps; entries = []; held = None; waiting = []; taker = taker; memory_seat = admissions; cell_seat = cell_seat }
     → taker.ring ≡ p.requests → number admissions ≡ p.hands + 1 → seat_book admissions ≡ p.memory → seat_cells cell_seat ≡ p.cells → plan_of o ≡ intake_plan p
 intake_plan_is p o taker admissions cell_seat made ring num book cells =
     ap plan_of made

@@ -2,7 +2,7 @@
 use Rattle.std.proofs.Common.{◌≡◌, ℕ, ◌+◌, ◌≤◌, ◌<◌, ◌==◌, Bool, true, false, not, IsTrue, List, [], ◌∷◌, ◌++◌, length, Some, None, refl, sym, ap, ap₂, subst, ◌∙◌, arith, length-append, append-nil}
 use Rattle.std.specs.List.{list_all, range_with_len}
 use Rattle.std.proofs.lemmas.Bool.{ne_eqb}
-use Rattle.host_block.specs.Room.{WithRoom}
+use Rattle.host_log.specs.Switch.{SwitchedLog}
 use Rattle.host_intake.specs.State.{MemorySeat}
 use Rattle.host_memory.specs.declared.limits.MemoryPlan.{MemoryPlan}
 use Rattle.host_memory.specs.Entries.{given_count}
@@ -45,7 +45,7 @@ module _ (a : Inside) (k : IsKept a) (mid : MemorySeat) (m : MemoryState) (same 
   quiet_given : (ev : Event) → given_id ev ≡ None → a.given ≡ length (given (a.log.items ++ ev ∷ []))
   quiet_given ev gives = k.counted.given ∙ sym (ap length (found_none given_id a.log.items ev gives))
 
-  pub filled_kept : (id block cnt byte : ℕ) (done : Bool) (n : MemoryState) (q : MemorySeat) (l : WithRoom Event) (front : ℕ)
+  pub filled_kept : (id block cnt byte : ℕ) (done : Bool) (n : MemoryState) (q : MemorySeat) (l : SwitchedLog Event) (front : ℕ)
       → done ≡ has_blocks id (history m) block cnt
       → (IsTrue done → n ≡ record m { entries = m.entries ++ record { hand = client_of m; what = Fill id block cnt byte } ∷ [] })
       → (done ≡ false → n ≡ m)
@@ -65,7 +65,7 @@ module _ (a : Inside) (k : IsKept a) (mid : MemorySeat) (m : MemoryState) (same 
       (kept_looked (client_state a) k.client q m.entries (numbered a k mid m same story later fixed past numbers) ev id block cnt v running room (sym answer) refl refl refl refl refl refl refl refl refl (λ x p. p))
       v.seat.0.0 l front a.given log_is (front_is ∙ ap length (sym seen)) refl refl (quiet_given ev refl)
 
-  pub shown_kept : (id block cnt : ℕ) (bytes : List ℕ) (done : Bool) (n : MemoryState) (q : MemorySeat) (l : WithRoom Event) (front : ℕ)
+  pub shown_kept : (id block cnt : ℕ) (bytes : List ℕ) (done : Bool) (n : MemoryState) (q : MemorySeat) (l : SwitchedLog Event) (front : ℕ)
       → done ≡ has_blocks id (history m) block cnt
       → (IsTrue done → found_by (size_of m) (history m) (Show id block cnt) ≡ Some bytes)
       → (IsTrue done → n ≡ record m { entries = m.entries ++ record { hand = client_of m; what = Show id block cnt } ∷ [] })
@@ -96,7 +96,7 @@ module _ (a : Inside) (k : IsKept a) (mid : MemorySeat) (m : MemoryState) (same 
   tried w id block cnt true n q answer is is_not out seen = visit a k mid m same story later fixed past numbers q (entry_by a.hands w ∷ []) out (left_with w n q (is refl) seen)
   tried w id block cnt false n q answer is is_not out seen = visit a k mid m same story later fixed past numbers q [] out (seen ∙ (ap (λ (x : MemoryState). x.entries) (is_not refl) ∙ sym (append-nil m.entries)))
 
-  pub shown_answer : (id block cnt : ℕ) (bytes : List ℕ) (done : Bool) (n : MemoryState) (q : MemorySeat) (l : WithRoom Event) (front : ℕ)
+  pub shown_answer : (id block cnt : ℕ) (bytes : List ℕ) (done : Bool) (n : MemoryState) (q : MemorySeat) (l : SwitchedLog Event) (front : ℕ)
       → done ≡ has_blocks id (history m) block cnt
       → (IsTrue done → found_by (size_of m) (history m) (Show id block cnt) ≡ Some bytes)
       → (done ≡ false → bytes ≡ [])
@@ -114,7 +114,7 @@ module _ (a : Inside) (k : IsKept a) (mid : MemorySeat) (m : MemoryState) (same 
         left = visit_left a q (Shown id block cnt done bytes) v.seat.0.0 l front a.given log_is (front_is ∙ ap length (sym seen));
       }
 
-  pub attached_kept : (id pages : ℕ) (n : MemoryState) (q : MemorySeat) (l : WithRoom Event) (front : ℕ) → length (given a.log.items) < id_limit a.spec
+  pub attached_kept : (id pages : ℕ) (n : MemoryState) (q : MemorySeat) (l : SwitchedLog Event) (front : ℕ) → length (given a.log.items) < id_limit a.spec
       → id ≡ given_count (history m) + 1
       → n ≡ record m { entries = m.entries ++ record { hand = client_of m; what = Attach id pages a.sent } ∷ [] }
       → front ≡ length n.entries → IsSameSeat mid q × IsOutside q → seen_by q ≡ n.entries → l ≡ record a.log { items = a.log.items ++ Attached pages id ∷ [] }
@@ -134,7 +134,7 @@ module _ (a : Inside) (k : IsKept a) (mid : MemorySeat) (m : MemoryState) (same 
       (kept_entry (client_state a) k.client q m.entries (numbered a k mid m same story later fixed past numbers) w ev v running room refl entry refl refl refl refl refl rightly ids (omega (arith, len, few)) refl refl (λ x p. p))
       v.seat.0.0 l front (a.given + 1) log_is (front_is ∙ ap length (sym seen)) refl refl (ap (λ x. x + 1) k.counted.given ∙ sym len)
 
-  pub attached_answer : (id pages : ℕ) (n : MemoryState) (q : MemorySeat) (l : WithRoom Event) (front : ℕ)
+  pub attached_answer : (id pages : ℕ) (n : MemoryState) (q : MemorySeat) (l : SwitchedLog Event) (front : ℕ)
       → id ≡ given_count (history m) + 1
       → n ≡ record m { entries = m.entries ++ record { hand = client_of m; what = Attach id pages a.sent } ∷ [] }
       → front ≡ length n.entries → IsSameSeat mid q × IsOutside q → seen_by q ≡ n.entries → l ≡ record a.log { items = a.log.items ++ Attached pages id ∷ [] }

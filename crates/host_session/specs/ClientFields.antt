@@ -39,6 +39,7 @@ pub record IsCounted (a : Inside) : Type 0 where
   pub given : a.given ≡ length (given a.log.items)
   pub owed : a.owed ≡ owed_count a.log.items
   pub room : a.log.room ≡ a.spec.events + 1
+  pub keeps : a.log.kept ≡ a.spec.keeps
 
 -- Room for all seats and senders of a session with so many hands.
 pub record HasRoomFor (hands : ℕ) (r : ClosingRoom) : Type 0 where

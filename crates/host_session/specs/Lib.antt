@@ -6,6 +6,7 @@ pub mod Closing
 pub mod Counting
 pub mod Endings
 pub mod Handed
+pub mod Keeping
 pub mod Kept
 pub mod Moves
 pub mod Opened

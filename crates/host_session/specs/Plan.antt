@@ -52,6 +52,7 @@ memory_plan_for spec hands pool = record {
     records = spec.records;
     moves = spec.memory_room;
     hands = hands;
+    keeps = spec.keeps;
   };
   pool = pool;
 }
@@ -65,6 +66,7 @@ intake_plan p = record {
   part = p.spec.part;
   size = p.spec.size;
   room = p.spec.records;
+  keeps = p.spec.keeps;
   admissions = p.hands + 1;
   ring = p.requests;
   memory = p.memory;

@@ -13,8 +13,9 @@ use crate::spec::SessionSpec;
 use host_frames::Pool;
 use host_group::Cells;
 use host_intake::Intake;
+use host_log::SwitchLog;
 use host_memory::Memory;
-use host_model::Events;
+use host_model::Event;
 use host_record::Finish;
 use host_rings::{Sender, SlipTaker};
 use host_turn::BookSeat;
@@ -32,7 +33,7 @@ pub struct ClientEnd {
     pub(crate) hands: u32,
     pub(crate) pool: Snapshot<Pool>,
     pub(crate) cells: Snapshot<Cells>,
-    pub(crate) log: Events,
+    pub(crate) log: SwitchLog<Event>,
     // How many records were sent, answers received, buffers given, and answers owed for what was sent.
     pub(crate) sent: u32,
     pub(crate) received: u32,
@@ -86,6 +87,13 @@ impl ClientEnd {
         ensures { result ≡ owed_count self.now.log }
     {
         self.owed
+    }
+
+    /// How the session was told to end, once it was.
+    pub fn told_end(&self) -> Option<Finish>
+        ensures { result ≡ self.now.finish }
+    {
+        self.finish
     }
 
     /// How many events still fit into the log, beside the one that ends it.

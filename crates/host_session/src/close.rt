@@ -2,6 +2,7 @@
 ghost use Rattle.std.specs.Prelude.{◌≡◌, true, length, map, vec_capacity};
 ghost use Rattle.host_session.specs.ClientFields.{HasRoomFor};
 ghost use Rattle.host_session.specs.Plan.{AreAllHands, IsShared};
+ghost use Rattle.host_session.specs.Keeping.{AreKeptAs};
 ghost use Rattle.host_session.specs.Whole.{IsWhole};
 
 use crate::client::ClientEnd;
@@ -9,19 +10,29 @@ use crate::hand::SessionHand;
 use crate::room::ClosingRoom;
 use crate::shared::SessionShared;
 use host_intake::IntakeParts;
-use host_model::{Events, MemEntries, TakenRows};
+use host_log::SwitchLog;
+use host_model::{Event, MemEntry, TakenRow};
 use host_rings::{close_answers, close_requests};
+
+/// What a session leaves: its client's log, the rows of the records taken, and the history of its buffers.
+#[derive(Drop)]
+pub struct SessionLogs {
+    pub log: SwitchLog<Event>,
+    pub rows: SwitchLog<TakenRow>,
+    pub memory: SwitchLog<MemEntry>,
+}
 
 /// Ends a session that is closed, with all its hands, and gives the client's log, the rows of the records taken, and the history of the buffers. It takes no memory.
 pub fn close_session(
     shared: SessionShared,
     client: ClientEnd,
     hands: Vec<SessionHand>,
-) -> (Events, TakenRows, MemEntries)
+) -> SessionLogs
     requires shared { IsShared client.plan shared }
     requires hands { AreAllHands client.plan hands.items }
     requires closed { client.closed ≡ true }
-    ensures { IsWhole client hands.items result.0.items result.1.items result.2.items }
+    ensures whole { IsWhole client hands.items result.log.items result.rows.items result.memory.items }
+    ensures kept { AreKeptAs client.plan.spec.keeps result }
 {
     let SessionShared {
         intake,
@@ -58,7 +69,11 @@ pub fn close_session(
     close_requests(sender, requests);
     close_answers(senders, taker);
     cells.close(cell_seat);
-    (log, rows, buffers.into_entries())
+    SessionLogs {
+        log,
+        rows,
+        memory: buffers.into_entries(),
+    }
 }
 
 // The seats and senders of all hands, by their numbers, in the room that was kept for them.

@@ -16,7 +16,7 @@ mod shared;
 mod spec;
 
 pub use client::ClientEnd;
-pub use close::close_session;
+pub use close::{SessionLogs, close_session};
 pub use error::SendError;
 pub use fronts::Fronts;
 pub use hand::SessionHand;

@@ -13,8 +13,8 @@ use host_block::Oom;
 use host_frames::Pool;
 use host_group::Cells;
 use host_intake::Intake;
-use host_memory::Memory;
-use host_model::Events;
+use host_log::SwitchLog;
+use host_memory::{Memory, MemoryLimits};
 use host_rings::{SlipSender, answer_ring, request_ring};
 use host_turn::{Book, BookSeat};
 use std::alloc::Global;
@@ -42,6 +42,7 @@ pub fn open_session(
         spec.part,
         spec.size,
         spec.records,
+        spec.keeps,
         requests,
         admissions,
         cell_seat,
@@ -54,7 +55,7 @@ pub fn open_session(
     let Some(events) = spec.events.checked_add(1) else {
         return Err(Oom);
     };
-    let log = Events::with_room(alloc, events)?;
+    let log = SwitchLog::with_room(alloc, events, spec.keeps)?;
     let mut closing = ClosingRoom {
         intake_seats,
         memory_seats,
@@ -107,16 +108,16 @@ fn open_memory(
     let Some(room) = (3 * ids as u64).checked_add(spec.events) else {
         return Err(Oom);
     };
-    let memory = Memory::new(
-        alloc,
-        spec.size,
+    let limits = MemoryLimits {
+        size: spec.size,
         ids,
         room,
-        spec.records,
-        spec.memory_room,
+        records: spec.records,
+        moves: spec.memory_room,
         hands,
-        pool,
-    )?;
+        keeps: spec.keeps,
+    };
+    let memory = Memory::new(alloc, limits, pool)?;
     match Book::new(alloc, memory, hands + 2) {
         Ok(made) => Ok(made),
         Err(_) => Err(Oom),

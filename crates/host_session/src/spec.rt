@@ -18,4 +18,6 @@ pub struct SessionSpec {
     pub events: u64,
     /// How many lifts and landings there is room for at the start.
     pub memory_room: u64,
+    /// Whether its histories are kept in memory.
+    pub keeps: bool,
 }

@@ -1,5 +1,5 @@
 -- What the stages after the script say together.
-use Rattle.std.proofs.Common.{◌≡◌, ℕ, Bool, List, refl, sym, ◌∙◌, ap, subst, arith, Option, Some, None}
+use Rattle.std.proofs.Common.{◌≡◌, ◌≤◌, ℕ, Bool, List, length, refl, sym, ◌∙◌, ap, subst, arith, Option, Some, None}
 use Rattle.std.specs.Prelude.{IsTrue, Result, Ok, Err, IfOk, IfErr, IfSome, OnOk}
 use Rattle.host_block.specs.Disk.{DiskState, fresh}
 use Rattle.host_gpt.specs.Image.{current_image}
@@ -9,7 +9,7 @@ use Rattle.host_start.specs.Copies.{image_in}
 use Rattle.host_start.specs.declared.copy.ImageCopy.{ImageCopy}
 use Rattle.host_start.specs.declared.ready.NotReady.{NotReady}
 use Rattle.host_start.specs.declared.ready.ReadyCopy.{ReadyCopy}
-use Rattle.host_start.specs.Images.{IsAttached, IsLayoutOn, IsPlaced, IsSmallEnough, SaysOfImage, SaysOfTable}
+use Rattle.host_start.specs.Images.{IsAttached, IsLayoutOn, IsPlaced, IsSmallEnough, SaysOfBlocks, SaysOfImage, SaysOfTable}
 use Rattle.host_start.specs.Refusals.{IsAfterScript, IsOfContent, IsOfImage, IsOfTable}
 use Rattle.host_start.specs.declared.error.Limit.TheVariants as limit
 use Rattle.host_start.specs.declared.error.StartError.{StartError}
@@ -76,12 +76,32 @@ says_early image none parts error.NoTable is says = absurd is
 says_early image none parts (error.NoPart session part) is says = absurd is
 says_early image none parts error.Oom is says = tt
 
+-- where the table was looked at there are few enough blocks
+pub says_few : (blocks : ℕ) (e : StartError) → blocks ≤ 262144 → IsOfTable e → SaysOfBlocks blocks e
+says_few blocks error.Source few is = absurd is
+says_few blocks (error.BadScript line cause) few is = absurd is
+says_few blocks (error.TooLarge limit.ScriptBytes) few is = absurd is
+says_few blocks (error.TooLarge limit.Sessions) few is = absurd is
+says_few blocks (error.TooLarge limit.Records) few is = absurd is
+says_few blocks (error.TooLarge limit.Moved) few is = absurd is
+says_few blocks (error.TooLarge limit.Blocks) few is = absurd is
+says_few blocks (error.TooLarge limit.Table) few is = few
+says_few blocks error.Disk few is = tt
+says_few blocks error.NoTable few is = few
+says_few blocks (error.NoPart session part) few is = few
+says_few blocks error.Oom few is = tt
+
+pub few_on : (blocks : ℕ) (r : Result Start StartError) → blocks ≤ 262144 → IfErr r IsOfTable → IfErr r (SaysOfBlocks blocks)
+few_on blocks (Ok start) few is = tt
+few_on blocks (Err e) few is = says_few blocks e few is
+
 -- a start on a disk that was just attached is on its image
 pub placed_on : (told tells : Bool) (image : List (List ℕ)) (s : DiskState) (r : Result Start StartError) → told ≡ tells → (IsTrue tells → s ≡ fresh image) → IfOk r (IsPlaced told (current_image s))
     → IfOk r (IsPlaced tells image)
 placed_on told tells image s (Ok start) same attached placed = record {
   layout = placed.layout;
   blocks = placed.blocks;
+  used = placed.used;
   places = placed.places;
   on_image = λ tell. subst (λ (t : DiskState). IsLayoutOn (current_image t) start.which placed.layout) (attached tell) (placed.on_image (subst IsTrue (sym same) tell));
 }
@@ -165,6 +185,11 @@ never_faults P (Err refused) none = λ is. absurd (none is)
 pub same_kept : (copy : Option ImageCopy) (kept : ImageCopy) (image : List (List ℕ)) → IfSome copy (λ (c : ImageCopy). c ≡ kept) → image_in kept ≡ image → IfSome copy (λ (c : ImageCopy). image_in c ≡ image)
 same_kept None kept image same is = tt
 same_kept (Some c) kept image same is = ap image_in same ∙ is
+
+-- and as many blocks
+pub as_many_kept : (copy : Option ImageCopy) (kept : ImageCopy) (blocks : ℕ) → IfSome copy (λ (c : ImageCopy). c ≡ kept) → length (image_in kept) ≡ blocks → IfSome copy (λ (c : ImageCopy). length (image_in c) ≡ blocks)
+as_many_kept None kept blocks same is = tt
+as_many_kept (Some c) kept blocks same is = ap (λ (k : ImageCopy). length (image_in k)) same ∙ is
 
 -- in blocks of the same size
 pub same_size : (copy : Option ImageCopy) (kept : ImageCopy) (size : ℕ) → IfSome copy (λ (c : ImageCopy). c ≡ kept) → kept.size ≡ size → IfSome copy (λ (c : ImageCopy). c.size ≡ size)

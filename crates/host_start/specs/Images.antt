@@ -2,6 +2,7 @@
 use Rattle.std.specs.Prelude.{◌≡◌, ℕ, ◌+◌, ◌<◌, ◌≤◌, Bool, IsTrue, List, [], ◌∷◌, ◌++◌, length, map, All, Result, Ok, Err, Vec}
 use Rattle.std.specs.declared.alloc.Global.{Global}
 use Rattle.host_block.specs.declared.range.Range.{Range}
+use Rattle.host_gpt.specs.Entries.{AreUsed}
 use Rattle.host_gpt.specs.Table.{IsTable, TableIsAbsent, TableIsTooLarge}
 use Rattle.host_gpt.specs.declared.which.Which.{Which}
 use Rattle.host_io.specs.Disks.{Shape}
@@ -29,6 +30,12 @@ pub record IsAttached (blocks size : ℕ) (tells : Bool) (shape : Shape) : Type 
   pub count : shape.blocks ≡ blocks
   pub of_size : shape.size ≡ size
   pub told : shape.tells ≡ tells
+
+-- an image is attached, to be written or to be read alone, in blocks of this size
+pub record IsOpened (size : ℕ) (writes : Bool) (shape : Shape) : Type 0 where
+  pub attached : IsTrue shape.attached
+  pub writable : shape.writable ≡ writes
+  pub of_size : shape.size ≡ size
 
 -- ---- partitions of a layout
 
@@ -65,11 +72,12 @@ pub record IsLayoutOn (image : List (List ℕ)) (which : Which) (layout : Layout
   pub table : IsTable image which disk_id layout.first_usable layout.last_usable layout.entries
   pub blocks : layout.blocks ≡ length image
 
--- What a start says: its sessions have the partitions that they name, by a layout on so many blocks, which is that of the
--- image where the disk tells.
+-- What a start says: its sessions have the partitions that they name, by a layout on so many blocks, whose entries are used
+-- ones by rising number, and which is that of the image where the disk tells.
 pub record IsPlaced (tells : Bool) (image : List (List ℕ)) (start : Start) : Type 0 where
   pub layout : Layout
   pub blocks : layout.blocks ≡ start.blocks
+  pub used : AreUsed layout.entries
   pub places : ArePlaces layout (parts_of (plans_of start.script)) start.places.items
   pub on_image : IsTrue tells → IsLayoutOn image start.which layout
 
@@ -94,6 +102,15 @@ SaysOfImage image parts error.NoTable = IsSmallEnough image × TableIsAbsent ima
 SaysOfImage image parts (error.TooLarge limit.Table) = IsSmallEnough image × TableIsTooLarge image
 SaysOfImage image parts (error.NoPart session part) = IsSmallEnough image × LacksPart image parts session part
 SaysOfImage image parts _ = Unit {0}
+
+-- What a refusal says of the number of blocks that the disk has, whether or not it tells: too many where that is the cause, and
+-- not too many where the table was looked at.
+abbrev pub SaysOfBlocks : ℕ → StartError → Type 0
+SaysOfBlocks blocks (error.TooLarge limit.Blocks) = 262144 < blocks
+SaysOfBlocks blocks error.NoTable = blocks ≤ 262144
+SaysOfBlocks blocks (error.TooLarge limit.Table) = blocks ≤ 262144
+SaysOfBlocks blocks (error.NoPart session part) = blocks ≤ 262144
+SaysOfBlocks blocks _ = Unit {0}
 
 -- attaching an image
 abbrev pub Attached : List (List ℕ) → Result ℕ StartError → Type 0

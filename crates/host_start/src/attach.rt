@@ -3,7 +3,7 @@ ghost use Rattle.std.specs.Prelude.{◌≡◌, ◌≤◌, IsErrOf, IsTrue, IfOk,
 ghost use Rattle.host_io.specs.Causes.{Rose};
 ghost use Rattle.host_io.specs.Disks.{Attaches, OnlyReads};
 ghost use Rattle.host_start.specs.Copies.{HasAttached};
-ghost use Rattle.host_start.specs.Images.{Attached};
+ghost use Rattle.host_start.specs.Images.{Attached, SaysOfBlocks};
 ghost use Rattle.host_start.specs.Refusals.{IsOfImage};
 ghost use Rattle.host_start.specs.declared.error.StartError.TheVariants.{Disk as DiskFails};
 
@@ -27,7 +27,12 @@ pub fn attach<D: Disk>(
     ensures opening { D.opening disk.new ≡ D.opening disk.old }
     ensures attaches { Attaches size writes (D.image_named disk.old image.now size) (D.shape disk.old) (D.shape disk.new) (D.state disk.new) result }
     ensures attached { IsTrue (D.shape disk.old).tells → Attached (D.image_named disk.old image.now size) result }
+
+    // How it is attached, and that the disk has too many blocks where that is the cause: known of every disk.
+    ensures is_attached { HasAttached result → IsTrue (D.shape disk.new).attached }
     ensures as_asked { HasAttached result → (D.shape disk.new).writable ≡ writes }
+    ensures of_size { HasAttached result → (D.shape disk.new).size ≡ size }
+    ensures blocks { IfErr result (SaysOfBlocks (D.shape disk.new).blocks) }
     ensures few { IfOk result (λ blocks. blocks ≤ 262144) }
 {
     let blocks = disk.attach_image(image, size, writes)?;

@@ -33,6 +33,7 @@ impl ImageCopy {
     ghost use Rattle.host_io.specs.Disks.{OnlyReads, OpensNone};
     ghost use Rattle.host_io.specs.Flat.{image_of};
     ghost use Rattle.host_start.specs.Copies.{Copies, HasAttached, image_in};
+    ghost use Rattle.host_start.specs.Images.{SaysOfBlocks};
     ghost use Rattle.host_start.specs.Refusals.{IsOfImage};
     ghost use Rattle.host_start.specs.declared.error.StartError.TheVariants.{Disk as DiskFails};
 
@@ -47,7 +48,11 @@ impl ImageCopy {
         ensures fault { IsErrOf result DiskFails → Rose (D.counts disk.old).faults (D.counts disk.new).faults }
         ensures only_reads { OnlyReads (D.counts disk.old) (D.counts disk.new) (D.never_fails disk.old) (D.never_fails disk.new) }
         ensures opens_none { OpensNone (D.shape disk.old) (D.shape disk.new) }
+        ensures is_attached { HasAttached result → IsTrue (D.shape disk.new).attached }
         ensures read_alone { HasAttached result → (D.shape disk.new).writable ≡ false }
+        ensures of_size { HasAttached result → (D.shape disk.new).size ≡ size }
+        ensures blocks { IfErr result (SaysOfBlocks (D.shape disk.new).blocks) }
+        ensures counted { IfOk result (λ copy. copy.blocks ≡ (D.shape disk.new).blocks) }
         ensures copied { IsTrue (D.shape disk.old).tells → Copies (D.image_named disk.old image.now size) result }
         ensures size { IfOk result (λ copy. copy.size ≡ size) }
         ensures few { IfOk result (λ copy. copy.blocks ≤ 262144) }

@@ -1,10 +1,10 @@
 // From a script and a disk to what a run needs.
-ghost use Rattle.std.specs.Prelude.{◌≡◌, ◌↔◌, ◌≤◌, IfOk, IfErr, IfSome, OnOk, IsErrOf, IsSome, IsTrue, false, true};
+ghost use Rattle.std.specs.Prelude.{◌≡◌, ◌↔◌, ◌≤◌, IfOk, IfErr, IfSome, OnOk, IsErrOf, IsSome, IsTrue, false, length, true};
 ghost use Rattle.host_block.specs.Disk.{fresh};
 ghost use Rattle.host_io.specs.Causes.{Rose};
 ghost use Rattle.host_io.specs.Disks.{OnlyReads, OpensNone};
-ghost use Rattle.host_start.specs.Copies.{HasStarted, image_in};
-ghost use Rattle.host_start.specs.Images.{IsAttached, IsPlaced, SaysOfImage, parts_of};
+ghost use Rattle.host_start.specs.Copies.{HasAttached, HasStarted, image_in};
+ghost use Rattle.host_start.specs.Images.{IsAttached, IsOpened, IsPlaced, SaysOfBlocks, SaysOfImage, parts_of};
 ghost use Rattle.host_start.specs.Reading.{IsFit};
 ghost use Rattle.host_start.specs.Refusals.{IsAfterScript, IsOfContent, IsOfTable};
 ghost use Rattle.host_start.specs.declared.error.StartError.TheVariants.{Disk as DiskFails};
@@ -50,10 +50,12 @@ pub fn start_on_disk<D: Disk>(
     ensures shape { IfOk result (λ start. IsAttached start.blocks size (D.shape disk.old).tells (D.shape disk.new)) }
     ensures state { IsTrue (D.shape disk.old).tells → OnOk result (D.state disk.new ≡ fresh (D.image_named disk.old image.now size)) }
     ensures opening { D.opening disk.new ≡ D.opening disk.old }
+    ensures opened { HasAttached result → IsOpened size true (D.shape disk.new) }
 
-    // The start is on that image, or the refusal says its cause.
+    // The start is on that image, or the refusal says its cause. Of the number of blocks it does whether or not the disk tells.
     ensures placed { IfOk result (IsPlaced (D.shape disk.old).tells (D.image_named disk.old image.now size)) }
     ensures refused { IsTrue (D.shape disk.old).tells → IfErr result (SaysOfImage (D.image_named disk.old image.now size) (parts_of (plans_of script))) }
+    ensures refused_blocks { IfErr result (SaysOfBlocks (D.shape disk.new).blocks) }
 {
     match attach(disk, image, size, true) {
         Ok(blocks) => Start::on(alloc, script, disk, blocks, size),
@@ -74,12 +76,13 @@ pub fn start_on_copy<D: Disk>(
     ensures fault { IfErr result (λ no. no.error ≡ DiskFails → Rose (D.counts disk.old).faults (D.counts disk.new).faults) }
     ensures only_reads { OnlyReads (D.counts disk.old) (D.counts disk.new) (D.never_fails disk.old) (D.never_fails disk.new) }
     ensures opens_none { OpensNone (D.shape disk.old) (D.shape disk.new) }
-    ensures read_alone { HasStarted result → (D.shape disk.new).writable ≡ false }
+    ensures read_alone { HasStarted result → IsOpened size false (D.shape disk.new) }
     ensures script { IfOk result (λ ready. ready.start.script ≡ script) }
     ensures size { IfOk result (λ ready. ready.start.size ≡ size) }
 
-    // The start is on the copy, which has the blocks of the image where the disk tells.
+    // The start is on the copy, which has as many blocks as the disk, and those of the image where that tells.
     ensures blocks { IfOk result (λ ready. ready.start.blocks ≡ ready.copy.blocks) }
+    ensures disk_blocks { IfOk result (λ ready. ready.start.blocks ≡ (D.shape disk.new).blocks) }
     ensures copy_size { IfOk result (λ ready. ready.copy.size ≡ size) }
     ensures placed { IfOk result (λ ready. IsPlaced true (image_in ready.copy) ready.start) }
     ensures copied { IsTrue (D.shape disk.old).tells → IfOk result (λ ready. image_in ready.copy ≡ D.image_named disk.old image.now size) }
@@ -89,6 +92,8 @@ pub fn start_on_copy<D: Disk>(
     ensures found_on { IfErr result (λ no. IfSome no.copy (λ copy. SaysOfImage (image_in copy) (parts_of (plans_of script)) no.error)) }
     ensures found { IsTrue (D.shape disk.old).tells → IfErr result (λ no. IfSome no.copy (λ copy. image_in copy ≡ D.image_named disk.old image.now size)) }
     ensures found_size { IfErr result (λ no. IfSome no.copy (λ copy. copy.size ≡ size)) }
+    ensures found_blocks { IfErr result (λ no. IfSome no.copy (λ copy. length (image_in copy) ≡ (D.shape disk.new).blocks)) }
+    ensures refused_blocks { IfErr result (λ no. SaysOfBlocks (D.shape disk.new).blocks no.error) }
     ensures handed { IfErr result (λ no. IsSome no.copy ↔ IsOfContent no.error) }
 {
     match ImageCopy::of_image(alloc, disk, image, size) {
@@ -106,12 +111,15 @@ fn start_on(alloc: Global, script: Script, copy: ImageCopy) -> Result<ReadyCopy,
     ensures script { IfOk result (λ ready. ready.start.script ≡ script) }
     ensures sizes { IfOk result (λ ready. ready.start.size ≡ copy.size) }
     ensures blocks { IfOk result (λ ready. ready.start.blocks ≡ ready.copy.blocks) }
+    ensures own_blocks { IfOk result (λ ready. ready.start.blocks ≡ copy.blocks) }
     ensures copy_size { IfOk result (λ ready. ready.copy.size ≡ copy.size) }
     ensures placed { IfOk result (λ ready. IsPlaced true (image_in ready.copy) ready.start) }
     ensures same { IfOk result (λ ready. image_in ready.copy ≡ image_in copy) }
     ensures refused { IfErr result (λ no. SaysOfImage (image_in copy) (parts_of (plans_of script)) no.error) }
     ensures found { IfErr result (λ no. IfSome no.copy (λ kept. image_in kept ≡ image_in copy)) }
     ensures found_size { IfErr result (λ no. IfSome no.copy (λ kept. kept.size ≡ copy.size)) }
+    ensures found_blocks { IfErr result (λ no. IfSome no.copy (λ kept. length (image_in kept) ≡ copy.blocks)) }
+    ensures refused_blocks { IfErr result (λ no. SaysOfBlocks copy.blocks no.error) }
     ensures handed { IfErr result (λ no. IsSome no.copy ↔ IsOfContent no.error) }
 {
     let mut copy = copy;

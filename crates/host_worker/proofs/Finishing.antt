@@ -33,7 +33,7 @@ use Rattle.host_worker.specs.Accounts.{AreAccounted, frames_of, pages_wanted, po
 use Rattle.host_worker.specs.Ends.{AreEnded, HandEnd, IsSessionEnd, IsStory, ends_seen, frames_by, frames_from, hand_end, shares_in}
 use Rattle.host_worker.specs.Finishes.{AreBack, AreClosed, AreHands, AreSessionsEnded, AreToEnd, parts_in}
 use Rattle.host_worker.specs.Hands.{AreNamed}
-use Rattle.host_worker.specs.Servers.{IsServer, block_size, plan_of, shared_of}
+use Rattle.host_worker.specs.Servers.{IsServer, block_size, keeps_of, plan_of, shared_of}
 use Rattle.host_worker.proofs.Dealt.{some_at}
 use Rattle.host_worker.proofs.Lists.{at_place, each_place, map_at, map_from}
 use Rattle.host_worker.proofs.Taking.{all_parts, part_at}
@@ -97,7 +97,7 @@ module _ {D : Type 0} {g : disk.Ghosts D} where
               subst (λ (q : SessionPlan). IsHand q n h) (sym p) (subst (λ (j : ℕ). IsHand (plan_of s) j h) o.0 part.hand),
         )
 
-    pub to_end : AreToEnd sessions clients
+    pub to_end : AreToEnd (keeps_of server) sessions clients
     to_end = record {
       count = client_count ∙ sym back.count;
       each = λ k s' c at' here.
@@ -110,6 +110,7 @@ module _ {D : Type 0} {g : disk.Ghosts D} where
             shared = subst (λ (q : SessionPlan). IsShared q (shared_of s')) (sym p) (subst (λ x. IsShared (plan_of s.0) (padded_value x)) (sym e.1) r.shared);
             hands = all_hands k s.0 s' c s.1 at' here;
             closed = at_place (λ (x : ClientState). x.closed ≡ true) clients k c shut.closed here;
+            keeps_is = ap (λ (q : SessionPlan). q.spec.keeps) p ∙ (ap (λ x. x.keeps) r.spec ∙ r.keeps_is);
           };
     }
 
@@ -203,14 +204,14 @@ module _ {D : Type 0} {g : disk.Ghosts D} where
   -- ---- all of it
 
   pub all_ended : (server : Server D g) (running : IsServer server) (hands : List (Hand D g)) (own : AreHands server hands) (clients : List ClientState) (shut : AreClosed server clients) (sessions : List Session) (back : AreBack hands server.sessions.items sessions)
-      (accounted : AreAccounted hands clients) (reports : List SessionReport) (ended : AreSessionsEnded sessions clients reports) (story : List Step) (home size : ℕ)
+      (accounted : AreAccounted hands clients) (reports : List SessionReport) (keeps : Bool) (ended : AreSessionsEnded sessions clients reports) (story : List Step) (home size : ℕ)
       → size ≡ block_size server
       → All (λ q. Continues (λ (step : Step). step.hand) (number q) (seen_by q) story) (map (λ (hand : Hand D g). hand.device_seat) hands)
       → ((n : ℕ) → All (λ q. number q ≢ n) (map (λ (hand : Hand D g). hand.device_seat) hands) → entries_of (λ (step : Step). step.hand) n story ≡ entries_of (λ (step : Step). step.hand) n (steps_of (opening_of server.device)).items)
       → home + total granted (pool_seats_of hands) ≡ 4096 + total given_back (pool_seats_of hands)
       → (SomeSeatRefused 4096 (pool_seats_of hands) → 4096 < total asked (pool_seats_of hands))
-      → AreEnded clients (map hand_end hands) (record { sessions = reports; frames_home = home; story = story; size = size })
-  all_ended server running hands own clients shut sessions back accounted reports ended story home size size_is seats others homes refused =
+      → AreEnded clients (map hand_end hands) (record { sessions = reports; keeps = keeps; frames_home = home; story = story; size = size })
+  all_ended server running hands own clients shut sessions back accounted reports keeps ended story home size size_is seats others homes refused =
       let logs = logs_are server running hands own clients shut sessions back reports ended in
       let short_same : ran_short reports ≡ list_any (λ (c : ClientState). list_any is_short_of_frames c.log) clients =
       sym (any_map (list_any is_short_of_frames) log_of reports) ∙ (ap (λ (l : List (List Event)). list_any (list_any is_short_of_frames) l) logs ∙ any_map (list_any is_short_of_frames) (λ (c : ClientState). c.log) clients) in
@@ -233,7 +234,7 @@ module _ {D : Type 0} {g : disk.Ghosts D} where
       from_zero k = omega arith
 
   pub finished : (server : Server D g) (running : IsServer server) (hands : List (Hand D g)) (own : AreHands server hands) (clients : List ClientState) (shut : AreClosed server clients) (sessions : List Session) (back : AreBack hands server.sessions.items sessions)
-      (accounted : AreAccounted hands clients) (reports : List SessionReport) (ended : AreSessionsEnded sessions clients reports) (device : Device D g) (home : ℕ) (device_seats : List (BookSeat (Device D g) Step (DeviceFixed D))) (pool_seats : List PoolSeat)
+      (accounted : AreAccounted hands clients) (reports : List SessionReport) (keeps : Bool) (ended : AreSessionsEnded sessions clients reports) (device : Device D g) (home : ℕ) (device_seats : List (BookSeat (Device D g) Step (DeviceFixed D))) (pool_seats : List PoolSeat)
       → device_seats ≡ map (λ (hand : Hand D g). hand.device_seat) hands
       → pool_seats ≡ pool_seats_of hands
       → fixed_of device ≡ fixed_of (opening_of server.device)
@@ -241,10 +242,10 @@ module _ {D : Type 0} {g : disk.Ghosts D} where
       → ((n : ℕ) → All (λ q. number q ≢ n) device_seats → entries_of (λ (step : Step). step.hand) n (steps_of device).items ≡ entries_of (λ (step : Step). step.hand) n (steps_of (opening_of server.device)).items)
       → home + total granted pool_seats ≡ frame_count server.pool + total given_back pool_seats
       → (SomeSeatRefused (frame_count server.pool) pool_seats → frame_count server.pool < total asked pool_seats)
-      → AreEnded clients (map hand_end hands) (ends_seen reports home (steps_of device).items (shape_of device).size)
-  finished server running hands own clients shut sessions back accounted reports ended device home device_seats pool_seats d_are p_are fixed seats others homes refused =
+      → AreEnded clients (map hand_end hands) (ends_seen reports keeps home (steps_of device).items (shape_of device).size)
+  finished server running hands own clients shut sessions back accounted reports keeps ended device home device_seats pool_seats d_are p_are fixed seats others homes refused =
       let frames : frame_count server.pool ≡ 4096 = running.pool.0 in
-      all_ended server running hands own clients shut sessions back accounted reports ended (steps_of device).items home (shape_of device).size
+      all_ended server running hands own clients shut sessions back accounted reports keeps ended (steps_of device).items home (shape_of device).size
       (ap (λ (f : DeviceFixed D). f.size) fixed)
       (subst (λ l. All (λ q. Continues (λ (step : Step). step.hand) (number q) (seen_by q) (steps_of device).items) l) d_are seats)
       (λ n all. others n (subst (λ l. All (λ q. number q ≢ n) l) (sym d_are) all))

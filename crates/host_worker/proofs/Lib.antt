@@ -14,5 +14,4 @@ pub mod Starting
 pub mod Taking
 pub mod Unroomed
 pub mod Finishing
-pub mod HowEnded
 pub mod Crossing

@@ -10,7 +10,7 @@ use Rattle.host_session.specs.Plan.{IsItsPool, IsShared, SessionPlan}
 use Rattle.host_worker.specs.declared.hand.Hand.{Hand}
 use Rattle.host_worker.specs.declared.server.Server.{Server}
 use Rattle.host_worker.specs.Hands.{IsHandOf}
-use Rattle.host_worker.specs.Servers.{IsClientOf, IsServer, IsSession, IsSessionShared, block_count, block_size, plan_of, session_count}
+use Rattle.host_worker.specs.Servers.{IsClientOf, IsServer, IsSession, IsSessionShared, block_count, block_size, keeps_of, plan_of, session_count}
 
 module _ {D : Type 0} {g : disk.Ghosts D} (server : Server D g) (client : ClientState) where
   pub client_still : (new : ClientState) → new.plan ≡ client.plan → IsClientOf server client → IsClientOf server new
@@ -21,7 +21,7 @@ module _ {D : Type 0} {g : disk.Ghosts D} (server : Server D g) (client : Client
   }
 
   module _ (running : IsServer server) (c : IsClientOf server client) where
-    its_session : IsSession (block_count server) (block_size server) server.hands (pool_id server.pool) (client.plan.spec.number - 1) c.session
+    its_session : IsSession (keeps_of server) (block_count server) (block_size server) server.hands (pool_id server.pool) (client.plan.spec.number - 1) c.session
     its_session = running.sessions (client.plan.spec.number - 1) c.session c.stands
 
     number_is : client.plan.spec.number ≡ c.session.spec.number

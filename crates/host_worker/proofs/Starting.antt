@@ -26,7 +26,7 @@ use Rattle.host_worker.specs.declared.room.ClosingRoom.{ClosingRoom}
 use Rattle.host_worker.specs.declared.server.Server.{Server}
 use Rattle.host_worker.specs.declared.session.Session.{Session}
 use Rattle.host_worker.specs.Hands.{AreNamed, IsClosingRoom, IsHandOf, IsNewHand, IsPartOf}
-use Rattle.host_worker.specs.Servers.{IsClientOf, IsServer, IsSession, block_count, block_size, plan_of}
+use Rattle.host_worker.specs.Servers.{IsClientOf, IsServer, IsSession, block_count, block_size, keeps_of, plan_of}
 use Rattle.host_worker.specs.Shares.{IsNewShare, IsOpenedFor, openings_of, specs_of}
 use Rattle.host_worker.specs.declared.started.Started.{Started}
 use Rattle.host_worker.specs.Starts.{AreOpened, AreShares, AreSpecs, IsPlanned, IsStarted}
@@ -112,11 +112,11 @@ module _ {D : Type 0} {g : disk.Ghosts D} where
 
   module _ (device : Device D g) (specs : List SessionSpec) (hands : ℕ) (server : Server D g)
       (fresh : (steps_of device).items ≡ []) (opening : opening_of server.device ≡ device)
-      (specs_ok : AreSpecs (shape_of device).blocks (shape_of device).size specs)
+      (specs_ok : AreSpecs (steps_of device).kept (shape_of device).blocks (shape_of device).size specs)
       (specs_are : specs_of server.sessions.items ≡ specs)
       (opened : (k : ℕ) (s : Session) → slice_get server.sessions.items k ≡ Some s → IsOpenedFor hands 0 (pool_id server.pool) s)
       (hand_count : server.hands ≡ hands) where
-    pub sessions_run : (k : ℕ) (s : Session) → slice_get server.sessions.items k ≡ Some s → IsSession (block_count server) (block_size server) server.hands (pool_id server.pool) k s
+    pub sessions_run : (k : ℕ) (s : Session) → slice_get server.sessions.items k ≡ Some s → IsSession (keeps_of server) (block_count server) (block_size server) server.hands (pool_id server.pool) k s
     sessions_run k s at =
         let o = opened k s at in
         let here : slice_get specs k ≡ Some s.spec = ap (λ (l : List SessionSpec). slice_get l k) (sym specs_are) ∙ map_at (λ (x : Session). x.spec) server.sessions.items k s at in
@@ -128,6 +128,7 @@ module _ {D : Type 0} {g : disk.Ghosts D} where
           plan = (o.plan.0 ∙ sym hand_count, o.plan.1);
           shared = o.shared;
           size_is = planned.size_is ∙ ap (λ (d : Device D g). (shape_of d).size) (sym opening);
+          keeps_is = at_place (λ (x : SessionSpec). x.keeps ≡ (steps_of device).kept) specs k s.spec specs_ok.kept here ∙ ap (λ (d : Device D g). (steps_of d).kept) (sym opening);
           part = (subst (λ (d : Device D g). s.spec.part.first + s.spec.part.count ≤ (shape_of d).blocks) (sym opening) part.0, part.1);
           room = (none_of s.hands.items o.dealt.count, omega (arith, o.room, hand_count));
         }
@@ -146,7 +147,7 @@ module _ {D : Type 0} {g : disk.Ghosts D} where
             keeps = begins s.spec hand.number (seen_by h.intake) (seen_by h.memory) (seen_by hand.device_seat) h.sender.pushed e.1.intake e.1.memory seen_none e.1.sender;
           }
 
-      pub made_hand : (hand.number ≡ 0 → MatchOption hand.room ⊥ (IsClosingRoom server.hands (length server.sessions.items))) → IsHandOf server hand
+      pub made_hand : (hand.number ≡ 0 → MatchOption hand.room ⊥ (IsClosingRoom (keeps_of server) server.hands (length server.sessions.items))) → IsHandOf server hand
       made_hand closing = record {
         closing = closing;
         number = omega (arith, m.number_is, less, hand_count);
@@ -189,10 +190,10 @@ module _ {D : Type 0} {g : disk.Ghosts D} where
   pub is_started : (device : Device D g) (specs : List SessionSpec) (hands : ℕ) (started : Started D g)
       → (steps_of device).items ≡ [] → opening_of started.server.device ≡ device → turns.seat_count started.server.device ≡ hands → 1 ≤ hands
       → (frame_count started.server.pool ≡ 4096) × (page_size started.server.pool ≡ (shape_of device).size) × (frames.seat_count started.server.pool ≡ hands)
-      → AreSpecs (shape_of device).blocks (shape_of device).size specs
+      → AreSpecs (steps_of device).kept (shape_of device).blocks (shape_of device).size specs
       → AreOpened specs hands 0 (pool_id started.server.pool) (record { sessions = started.server.sessions; clients = started.clients })
       → started.server.hands ≡ hands → length started.hands.items ≡ hands
-      → ((n : ℕ) (hand : Hand D g) → slice_get started.hands.items n ≡ Some hand → IsMade (book_id started.server.device) device (pool_id started.server.pool) started.clients.items n hand × (hand.number ≡ 0 → MatchOption hand.room ⊥ (IsClosingRoom hands (length started.server.sessions.items))))
+      → ((n : ℕ) (hand : Hand D g) → slice_get started.hands.items n ≡ Some hand → IsMade (book_id started.server.device) device (pool_id started.server.pool) started.clients.items n hand × (hand.number ≡ 0 → MatchOption hand.room ⊥ (IsClosingRoom (steps_of device).kept hands (length started.server.sessions.items))))
       → IsStarted device specs hands started
   is_started device specs hands started fresh opening seats some pool specs_ok opened hand_count count made = record {
     server = running;
@@ -219,6 +220,7 @@ module _ {D : Type 0} {g : disk.Ghosts D} where
         some = omega (arith, some, hand_count);
       }
 
-      is_hand : (n : ℕ) (hand : Hand D g) → n < hands → IsMade (book_id started.server.device) device (pool_id started.server.pool) started.clients.items n hand → (hand.number ≡ 0 → MatchOption hand.room ⊥ (IsClosingRoom hands (length started.server.sessions.items))) → IsHandOf started.server hand
+      is_hand : (n : ℕ) (hand : Hand D g) → n < hands → IsMade (book_id started.server.device) device (pool_id started.server.pool) started.clients.items n hand → (hand.number ≡ 0 → MatchOption hand.room ⊥ (IsClosingRoom (steps_of device).kept hands (length started.server.sessions.items))) → IsHandOf started.server hand
       is_hand n hand less m closing = made_hand device specs hands started.server fresh opening specs_ok opened.specs_are opened.sessions hand_count started.clients.items opened.clients_are n less hand m
-          (subst (λ (k : ℕ). hand.number ≡ 0 → MatchOption hand.room ⊥ (IsClosingRoom k (length started.server.sessions.items))) (sym hand_count) closing)
+          (subst (λ (d : Device D g). hand.number ≡ 0 → MatchOption hand.room ⊥ (IsClosingRoom (steps_of d).kept started.server.hands (length started.server.sessions.items))) (sym opening)
+          (subst (λ (k : ℕ). hand.number ≡ 0 → MatchOption hand.room ⊥ (IsClosingRoom (steps_of device).kept k (length started.server.sessions.items))) (sym hand_count) closing))

@@ -1,5 +1,5 @@
 -- The hands are taken apart, and the sessions are ended.
-use Rattle.std.proofs.Common.{◌≡◌, ◌⊎◌, inl, inr, ℕ, zero, suc, ◌+◌, ◌<◌, ◌≤◌, List, [], ◌∷◌, ◌++◌, length, map, reverse, All, Option, Some, None, refl, sym, ap, subst, ◌∙◌, arith, length-append, append-nil, append_assoc, vec_capacity}
+use Rattle.std.proofs.Common.{◌≡◌, ◌⊎◌, inl, inr, ℕ, zero, suc, ◌+◌, ◌<◌, ◌≤◌, List, [], ◌∷◌, ◌++◌, length, map, reverse, All, Option, Some, None, refl, sym, ap, subst, ◌∙◌, arith, length-append, append-nil, append_assoc, vec_capacity, Bool}
 use Rattle.std.specs.Prelude.{slice_get, slice_set}
 use Rattle.std.specs.List.{cons_option}
 use Rattle.std.proofs.lemmas.Bool.{cases_lt}
@@ -7,13 +7,19 @@ use Rattle.std.proofs.lemmas.List.{length-reverse, length-set, map-append, rever
 use Rattle.std.proofs.lemmas.List.Elements.{All-head, All-tail}
 use Rattle.std.proofs.lemmas.Option.{none-some, same_Some, slice_get_within}
 use Rattle.host_io.specs.declared.disk.Disk as disk
+use Rattle.host_model.specs.declared.event.Event.{Event}
+use Rattle.host_model.specs.declared.memory.MemEntry.{MemEntry}
+use Rattle.host_model.specs.declared.row.TakenRow.{TakenRow}
 use Rattle.host_report.specs.declared.session.SessionReport.{SessionReport}
 use Rattle.host_session.specs.declared.hand.SessionHand.{SessionHand}
 use Rattle.host_session.specs.Client.{ClientState}
+use Rattle.host_session.specs.Whole.{IsWhole}
 use Rattle.host_session.proofs.Snoc.{found_one}
 use Rattle.host_worker.specs.declared.hand.Hand.{Hand}
 use Rattle.host_worker.specs.declared.session.Session.{Session}
+use Rattle.host_worker.specs.declared.session_end.SessionEnd.{SessionEnd}
 use Rattle.host_worker.specs.Finishes.{AreSessionsEnded, AreToEnd, IsEndOf, IsToEnd, parts_in}
+use Rattle.host_worker.specs.SessionEnds.{IsReportOf, report_of}
 use Rattle.host_worker.specs.Shares.{HasOneMore, HaveOneMore}
 use Rattle.host_worker.proofs.Dealt.{from_end, some_at}
 use Rattle.host_worker.proofs.Lists.{at_place, each_place, set_elsewhere, set_here}
@@ -137,18 +143,31 @@ at_middle : {A : Type 0} (xs : List A) (y : A) (zs : List A) → slice_get (xs +
 at_middle [] y zs = refl
 at_middle (x ∷ xs) y zs = at_middle xs y zs
 
+-- what a report says of a session that ended so
+pub end_as_reported : (s : Session) (c : ClientState) (end : SessionEnd) (report : SessionReport) → IsEndOf s c (report_of end) → IsReportOf end report → IsEndOf s c report
+end_as_reported s c end report is says = record {
+  spec = (says.place.0 ∙ is.spec.0, says.place.1 ∙ is.spec.1, says.place.2 ∙ is.spec.2);
+  finish = is.finish ∙ ap Some (sym says.finish);
+  whole = subst (λ (l : List Event). IsWhole c s.hands.items l report.taken.items report.memory.items) (sym says.log)
+      (subst (λ (l : List TakenRow). IsWhole c s.hands.items end.logs.log.items l report.memory.items) (sym says.rows)
+      (subst (λ (l : List MemEntry). IsWhole c s.hands.items end.logs.log.items end.logs.rows.items l) (sym says.memory) is.whole));
+}
+
 module _ (sessions : List Session) (clients : List ClientState) (left_s more_s : List Session) (left_c more_c : List ClientState) (ends : List SessionReport)
-    (t : AreToEnd sessions clients) (d : AreEndedSoFar sessions clients left_s left_c ends) (s : Session) (c : ClientState) (s_is : left_s ≡ more_s ++ s ∷ []) (c_is : left_c ≡ more_c ++ c ∷ []) where
+    (keeps : Bool) (t : AreToEnd keeps sessions clients) (d : AreEndedSoFar sessions clients left_s left_c ends) (s : Session) (c : ClientState) (s_is : left_s ≡ more_s ++ s ∷ []) (c_is : left_c ≡ more_c ++ c ∷ []) where
   s_rest : sessions ≡ d.done_s ++ s ∷ reverse more_s
   s_rest = d.s_are ∙ ap (λ (l : List Session). d.done_s ++ l) (ap reverse s_is ∙ reverse-append more_s (s ∷ []))
 
   c_rest : clients ≡ d.done_c ++ c ∷ reverse more_c
   c_rest = d.c_are ∙ ap (λ (l : List ClientState). d.done_c ++ l) (ap reverse c_is ∙ reverse-append more_c (c ∷ []))
 
-  pub next_to_end : IsToEnd s c
+  pub next_to_end : IsToEnd keeps s c
   next_to_end =
       t.each (length d.done_s) s c (ap (λ (l : List Session). slice_get l (length d.done_s)) s_rest ∙ at_middle d.done_s s (reverse more_s))
       (ap (λ (l : List ClientState). slice_get l (length d.done_s)) c_rest ∙ (ap (λ (n : ℕ). slice_get (d.done_c ++ c ∷ reverse more_c) n) (sym d.even) ∙ at_middle d.done_c c (reverse more_c)))
+
+  pub own_to_end : IsToEnd c.plan.spec.keeps s c
+  own_to_end = let t = next_to_end in record { spec = t.spec; shared = t.shared; hands = t.hands; closed = t.closed; keeps_is = refl }
 
   pub ended_more : (e : SessionReport) → IsEndOf s c e → AreEndedSoFar sessions clients more_s more_c (ends ++ e ∷ [])
   ended_more e is = record {

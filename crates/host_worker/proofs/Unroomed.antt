@@ -14,7 +14,7 @@ use Rattle.host_worker.specs.declared.server.Server.{Server}
 use Rattle.host_worker.specs.declared.session.Session.{Session}
 use Rattle.host_worker.specs.Finishes.{AreBack, AreHands, HasRoomFor, HasTakenBack, parts_in, without_room}
 use Rattle.host_worker.specs.Hands.{IsClosingRoom}
-use Rattle.host_worker.specs.Servers.{IsServer}
+use Rattle.host_worker.specs.Servers.{IsServer, keeps_of}
 use Rattle.host_worker.proofs.Lists.{each_place, map_at, map_from}
 
 module _ {D : Type 0} {g : disk.Ghosts D} where
@@ -67,7 +67,7 @@ module _ {D : Type 0} {g : disk.Ghosts D} where
     some_hands = omega (arith, own.count, running.some)
 
     pub room_kept : (0 < length hands) × ((hand : Hand D g) → slice_get hands 0 ≡ Some hand → IsSome hand.room)
-    room_kept = (some_hands, λ hand at. let o = own.each 0 hand at in kept_some (IsClosingRoom server.hands (length server.sessions.items)) hand.room (o.1.closing o.0))
+    room_kept = (some_hands, λ hand at. let o = own.each 0 hand at in kept_some (IsClosingRoom (keeps_of server) server.hands (length server.sessions.items)) hand.room (o.1.closing o.0))
 
     first_hand : (hand : Hand D g) × (slice_get hands 0 ≡ Some hand)
     first_hand = at hands some_hands
@@ -76,12 +76,12 @@ module _ {D : Type 0} {g : disk.Ghosts D} where
         at [] less = absurd (omega (arith, less))
         at (x ∷ xs) less = (x, refl)
 
-    pub room_of_all : (room : ClosingRoom D g) → ((hand : Hand D g) → slice_get hands 0 ≡ Some hand → hand.room ≡ Some room) → IsClosingRoom server.hands (length server.sessions.items) room
+    pub room_of_all : (room : ClosingRoom D g) → ((hand : Hand D g) → slice_get hands 0 ≡ Some hand → hand.room ≡ Some room) → IsClosingRoom (keeps_of server) server.hands (length server.sessions.items) room
     room_of_all room is =
         let o = own.each 0 first_hand.0 first_hand.1 in
-        kept_good (IsClosingRoom server.hands (length server.sessions.items)) first_hand.0.room room (is first_hand.0 first_hand.1) (o.1.closing o.0)
+        kept_good (IsClosingRoom (keeps_of server) server.hands (length server.sessions.items)) first_hand.0.room room (is first_hand.0 first_hand.1) (o.1.closing o.0)
 
-    module _ (left : List (Hand D g)) (e : map without_room left ≡ map without_room hands) (room : ClosingRoom D g) (c : IsClosingRoom server.hands (length server.sessions.items) room) where
+    module _ (left : List (Hand D g)) (e : map without_room left ≡ map without_room hands) (room : ClosingRoom D g) (c : IsClosingRoom (keeps_of server) server.hands (length server.sessions.items) room) where
       pub room_for : HasRoomFor (length left) room server.sessions.items
       room_for =
           let n : length left ≡ server.hands = same_length left hands e ∙ own.count in
@@ -136,6 +136,9 @@ module _ {D : Type 0} {g : disk.Ghosts D} where
 
         pub all_back : AreBack hands server.sessions.items sessions
         all_back = back_of left hands e server.sessions.items sessions t.sessions
+
+        pub ends_kept : room'.ends.kept ≡ keeps_of server
+        ends_kept = ap (λ x. x.kept) t.ends ∙ c.ends_kept
 
         pub ends_room : (room'.ends.items ≡ []) × (length sessions ≤ room'.ends.room)
         ends_room = (ap (λ x. x.items) t.ends ∙ c.ends_fit.0, omega (arith, ap (λ x. x.room) t.ends, c.ends_fit.1, t.sessions.count))

@@ -29,7 +29,7 @@ use Rattle.host_worker.specs.declared.server.Server.{Server}
 use Rattle.host_worker.specs.declared.session.Session.{Session}
 use Rattle.host_worker.specs.Accounts.{HasWorked, frames_of}
 use Rattle.host_worker.specs.Hands.{AreNamed, IsClosingRoom, IsHandOf, IsPartOf, with_pool_seat}
-use Rattle.host_worker.specs.Servers.{IsServer, plan_of, shared_of}
+use Rattle.host_worker.specs.Servers.{IsServer, plan_of, shared_of, keeps_of}
 use Rattle.host_hand.proofs.Others.{at_session_others}
 use Rattle.host_intake.proofs.Ledgering.{and_left, and_right}
 use Rattle.host_hand.specs.Growth.{HasAdded}
@@ -140,7 +140,7 @@ module _ {D : Type 0} {g : disk.Ghosts D} (server : Server D g) (old new : Hand 
           each = λ j t h there stands. subst (λ (n : ℕ). IsPartOf t n h (seen_by new.device_seat)) (sym l.number) (part_at j t h there (ap (λ (x : List SessionHand). slice_get x j) (sym l.sessions_are) ∙ stands) (j == k) refl);
           named = subst (λ (n : ℕ). AreNamed (length server.sessions.items) n (seen_by new.device_seat)) (sym l.number)
               (named_still (length server.sessions.items) old.number s.spec.number (from_one k s.spec.number (running.sessions k s here).number, up_to_count k s.spec.number (length server.sessions.items) (running.sessions k s here).number (slice_get_within server.sessions.items k s here)) l.served.stepped.steps (seen_by old.device_seat) (seen_by new.device_seat) l.served.stepped.added l.served.stepped.named own.named);
-          closing = λ e. subst (λ (r : Option (ClosingRoom D g)). MatchOption r ⊥ (IsClosingRoom server.hands (length server.sessions.items))) (sym l.closing) (own.closing (sym l.number ∙ e));
+          closing = λ e. subst (λ (r : Option (ClosingRoom D g)). MatchOption r ⊥ (IsClosingRoom (keeps_of server) server.hands (length server.sessions.items))) (sym l.closing) (own.closing (sym l.number ∙ e));
         }
 
     pub has_worked : HasWorked old new

@@ -1,6 +1,6 @@
 -- How a server ends: its sessions, the device's steps and the pages that are home, put together with all that the hands
 -- and clients kept.
-use Rattle.std.specs.Prelude.{◌≡◌, ℕ, ◌+◌, ◌≤◌, ◌<◌, true, List, [], ◌∷◌, length, sum_by, filter_map, slice_get, Some, All, IsTrue}
+use Rattle.std.specs.Prelude.{◌≡◌, ℕ, ◌+◌, ◌≤◌, ◌<◌, Bool, true, List, [], ◌∷◌, length, sum_by, filter_map, slice_get, Some, All, IsTrue}
 use Rattle.std.specs.List.{list_all}
 use Rattle.host_hand.specs.Frames.{frames_out}
 use Rattle.host_hand.specs.Kept.{KeepsSession}
@@ -25,16 +25,17 @@ pub record HandEnd : Type 0 where
 abbrev pub hand_end : {D : Type 0} {g : disk.Ghosts D} → Hand D g → HandEnd
 hand_end hand = record { steps = seen_by hand.device_seat; shares = hand.sessions.items }
 
--- what contracts see of the ends: the sessions, how many frames are home, and the device's steps
+-- what contracts see of the ends: the sessions, whether they are kept, how many frames are home, and the device's steps
 pub record EndsState : Type 0 where
   pub sessions : List SessionReport
+  pub keeps : Bool
   pub frames_home : ℕ
   pub story : List Step
   -- how long a block is
   pub size : ℕ
 
-abbrev pub ends_seen : List SessionReport → ℕ → List Step → ℕ → EndsState
-ends_seen ends home steps length_of_block = record { sessions = ends; frames_home = home; story = steps; size = length_of_block }
+abbrev pub ends_seen : List SessionReport → Bool → ℕ → List Step → ℕ → EndsState
+ends_seen ends keeps home steps length_of_block = record { sessions = ends; keeps = keeps; frames_home = home; story = steps; size = length_of_block }
 
 -- what the hands have of session k
 abbrev pub shares_in : ℕ → List HandEnd → List SessionHand

@@ -1,10 +1,6 @@
 -- What has to hold where a server is finished, and how its parts come together.
-use Rattle.std.specs.Prelude.{◌≡◌, ℕ, ◌+◌, ◌≤◌, Bool, true, false, if◌then◌else◌, List, [], ◌∷◌, ◌++◌, length, map, filter_map, slice_get, Option, Some, None, All, vec_capacity}
+use Rattle.std.specs.Prelude.{◌≡◌, ℕ, ◌+◌, ◌≤◌, Bool, true, List, [], ◌∷◌, ◌++◌, length, map, filter_map, slice_get, Option, Some, None, All, vec_capacity}
 use Rattle.host_io.specs.declared.disk.Disk as disk
-use Rattle.host_model.specs.declared.event.Event.{Event}
-use Rattle.host_model.specs.declared.event.Event.TheVariants.{Aborted}
-use Rattle.host_record.specs.declared.finish.Finish.{Finish}
-use Rattle.host_record.specs.declared.finish.Finish.TheVariants.{Abort, Drain}
 use Rattle.host_report.specs.declared.session.SessionReport.{SessionReport}
 use Rattle.host_session.specs.declared.hand.SessionHand.{SessionHand}
 use Rattle.host_session.specs.Client.{ClientState}
@@ -17,29 +13,15 @@ use Rattle.host_worker.specs.declared.session.Session.{Session}
 use Rattle.host_worker.specs.Hands.{IsHandOf}
 use Rattle.host_worker.specs.Servers.{plan_of, shared_of}
 
-abbrev pub is_abort : Event → Bool
-is_abort Aborted = true
-is_abort _ = false
-
--- how a session ended whose log ends with this event
-abbrev pub finish_by : Option Event → Finish
-finish_by None = Drain
-finish_by (Some e) = if is_abort e then Abort else Drain
-
--- the last event of a log
-abbrev pub last_event : List Event → Option Event
-last_event [] = None
-last_event (e ∷ []) = Some e
-last_event (e ∷ log) = last_event log
-
 -- ---- one session
 
--- A session with its client and all its hands, to be ended.
-pub record IsToEnd (s : Session) (client : ClientState) : Type 0 where
+-- A session with its client and all its hands, to be ended, whose histories are kept or not.
+pub record IsToEnd (keeps : Bool) (s : Session) (client : ClientState) : Type 0 where
   pub spec : client.plan.spec ≡ s.spec
   pub shared : IsShared client.plan (shared_of s)
   pub hands : AreAllHands client.plan s.hands.items
   pub closed : client.closed ≡ true
+  pub keeps_is : client.plan.spec.keeps ≡ keeps
 
 -- It ended so.
 pub record IsEndOf (s : Session) (client : ClientState) (e : SessionReport) : Type 0 where
@@ -48,9 +30,9 @@ pub record IsEndOf (s : Session) (client : ClientState) (e : SessionReport) : Ty
   pub whole : IsWhole client s.hands.items e.log.items e.taken.items e.memory.items
 
 -- each with its client
-pub record AreToEnd (sessions : List Session) (clients : List ClientState) : Type 0 where
+pub record AreToEnd (keeps : Bool) (sessions : List Session) (clients : List ClientState) : Type 0 where
   pub count : length clients ≡ length sessions
-  pub each : (k : ℕ) (s : Session) (client : ClientState) → slice_get sessions k ≡ Some s → slice_get clients k ≡ Some client → IsToEnd s client
+  pub each : (k : ℕ) (s : Session) (client : ClientState) → slice_get sessions k ≡ Some s → slice_get clients k ≡ Some client → IsToEnd keeps s client
 
 pub record AreSessionsEnded (sessions : List Session) (clients : List ClientState) (ends : List SessionReport) : Type 0 where
   pub count : length ends ≡ length sessions

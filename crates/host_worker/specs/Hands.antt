@@ -1,5 +1,5 @@
 -- The hands of a server.
-use Rattle.std.specs.Prelude.{◌≡◌, ℕ, ◌≤◌, ◌<◌, List, [], length, slice_get, Some, All, IsTrue, MatchOption, vec_capacity}
+use Rattle.std.specs.Prelude.{◌≡◌, ℕ, ◌≤◌, ◌<◌, Bool, List, [], length, slice_get, Some, All, IsTrue, MatchOption, vec_capacity}
 use Rattle.std.specs.List.{list_all}
 use Rattle.host_device.specs.Seen.{fixed_of}
 use Rattle.host_frames.specs.declared.seat.PoolSeat.{PoolSeat}
@@ -16,7 +16,7 @@ use Rattle.host_worker.specs.declared.hand.Hand.{Hand}
 use Rattle.host_worker.specs.declared.room.ClosingRoom.{ClosingRoom}
 use Rattle.host_worker.specs.declared.server.Server.{Server}
 use Rattle.host_worker.specs.declared.session.Session.{Session}
-use Rattle.host_worker.specs.Servers.{plan_of}
+use Rattle.host_worker.specs.Servers.{keeps_of, plan_of}
 
 -- all steps of hand n name one of so many sessions
 abbrev pub AreNamed : ℕ → ℕ → List Step → Type 0
@@ -28,11 +28,12 @@ pub record IsPartOf (s : Session) (n : ℕ) (h : SessionHand) (steps : List Step
   pub keeps : KeepsSession s.spec n h steps
 
 module _ {D : Type 0} {g : disk.Ghosts D} where
-  -- room for the seats of so many hands, and for the ends of so many sessions
-  pub record IsClosingRoom (hands sessions : ℕ) (r : ClosingRoom D g) : Type 0 where
+  -- room for the seats of so many hands, and for the ends of so many sessions, which are kept or not
+  pub record IsClosingRoom (keeps : Bool) (hands sessions : ℕ) (r : ClosingRoom D g) : Type 0 where
     pub device_seats_fit : (r.device_seats.items ≡ []) × (hands ≤ vec_capacity r.device_seats)
     pub pool_seats_fit : (r.pool_seats.items ≡ []) × (hands ≤ vec_capacity r.pool_seats)
     pub ends_fit : (r.ends.items ≡ []) × (r.ends.room ≡ sessions)
+    pub ends_kept : r.ends.kept ≡ keeps
 
   abbrev pub pool_seat_of : Hand D g → PoolSeat
   pool_seat_of hand = hand.pool_seat
@@ -51,7 +52,7 @@ module _ {D : Type 0} {g : disk.Ghosts D} where
     pub each : (k : ℕ) (s : Session) (h : SessionHand) → slice_get server.sessions.items k ≡ Some s → slice_get hand.sessions.items k ≡ Some h → IsPartOf s hand.number h (seen_by hand.device_seat)
     pub named : AreNamed (length server.sessions.items) hand.number (seen_by hand.device_seat)
     -- the first hand keeps the room for closing
-    pub closing : hand.number ≡ 0 → MatchOption hand.room ⊥ (IsClosingRoom server.hands (length server.sessions.items))
+    pub closing : hand.number ≡ 0 → MatchOption hand.room ⊥ (IsClosingRoom (keeps_of server) server.hands (length server.sessions.items))
 
   -- it has seen and done nothing
   pub record IsNewHand (hand : Hand D g) : Type 0 where

@@ -5,6 +5,7 @@ pub mod Gathered
 pub mod Hands
 pub mod Laws
 pub mod Servers
+pub mod SessionEnds
 pub mod Shares
 pub mod Starts
 pub mod Turns

@@ -1,5 +1,5 @@
 -- How a server is started.
-use Rattle.std.specs.Prelude.{◌≡◌, ℕ, ◌+◌, ◌^◌, ◌<◌, ◌≤◌, List, [], ◌∷◌, ◌++◌, length, map, slice_get, slice_set, Some, All, Vec, vec_capacity}
+use Rattle.std.specs.Prelude.{◌≡◌, ℕ, ◌+◌, ◌^◌, ◌<◌, ◌≤◌, Bool, List, [], ◌∷◌, ◌++◌, length, map, slice_get, slice_set, Some, All, Vec, vec_capacity}
 use Rattle.std.specs.declared.alloc.Global.{Global}
 use Rattle.atomic_table.specs.Seated.{TableId}
 use Rattle.host_device.specs.declared.device.Device.{Device}
@@ -25,11 +25,13 @@ pub record IsPlanned (size : ℕ) (spec : SessionSpec) : Type 0 where
   pub depth : (1 ≤ spec.depth) × (spec.depth ≤ 128)
   pub size_is : spec.size ≡ size
 
--- At most sixteen, numbered from 1, each on a range of a device with so many blocks of this size.
-pub record AreSpecs (blocks size : ℕ) (specs : List SessionSpec) : Type 0 where
+-- At most sixteen, numbered from 1, each on a range of a device with so many blocks of this size, whose histories are kept
+-- or not as the device's is.
+pub record AreSpecs (keeps : Bool) (blocks size : ℕ) (specs : List SessionSpec) : Type 0 where
   pub few : length specs ≤ 16
   pub numbers : (k : ℕ) (spec : SessionSpec) → slice_get specs k ≡ Some spec → spec.number ≡ k + 1
   pub planned : All (IsPlanned size) specs
+  pub kept : All (λ spec. spec.keeps ≡ keeps) specs
   pub parts : All (λ spec. (spec.part.first + spec.part.count ≤ blocks) × (spec.part.first + spec.part.count < 2 ^ 64)) specs
 
 -- ---- as it is being started
@@ -74,12 +76,12 @@ pub record AreDealt (hands : ℕ) (old new : List Session) (shares : List (Vec S
 
 module _ {D : Type 0} {g : disk.Ghosts D} where
   -- sessions of these specs, all dealt out, a pool with its seats, and room for what comes
-  pub record IsPrepared (specs : List SessionSpec) (hands size : ℕ) (p : Prepared D g) : Type 0 where
+  pub record IsPrepared (specs : List SessionSpec) (hands size : ℕ) (keeps : Bool) (p : Prepared D g) : Type 0 where
     pub pool : (frame_count p.pool ≡ 4096) × (page_size p.pool ≡ size) × (frames.seat_count p.pool ≡ hands)
     pub opened : AreOpened specs hands 0 (pool_id p.pool) p.opened
     pub shares : (length p.shares.items ≡ hands) × AreShares p.opened.clients.items p.shares.items
     pub seats : (length p.pool_seats.items ≡ hands) × All (IsNewSeat (pool_id p.pool)) p.pool_seats.items
-    pub room : (p.hands.items ≡ []) × (hands ≤ vec_capacity p.hands) × (p.ends.items ≡ []) × (p.ends.room ≡ length specs)
+    pub room : (p.hands.items ≡ []) × (hands ≤ vec_capacity p.hands) × (p.ends.items ≡ []) × (p.ends.room ≡ length specs) × (p.ends.kept ≡ keeps)
 
   -- ---- as it is
 

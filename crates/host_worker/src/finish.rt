@@ -1,5 +1,5 @@
 //! A server is finished.
-ghost use Rattle.std.specs.Prelude.{◌≡◌, ◌<◌, ◌≤◌, [], ◌+◌, length, map, slice_get, IsSome, Some, All, vec_capacity, vec_len};
+ghost use Rattle.std.specs.Prelude.{◌≡◌, ◌<◌, ◌≤◌, [], ◌+◌, true, length, map, slice_get, IsSome, Some, All, vec_capacity, vec_len};
 ghost use Rattle.std.specs.Option.{ForSome};
 ghost use Rattle.host_frames.specs.Seats.{SomeSeatRefused, asked, frame_count, given_back, granted, pool_id, seat_count, seat_pool};
 ghost use Rattle.host_frames.specs.Sums.{total};
@@ -7,18 +7,20 @@ ghost use Rattle.host_device.specs.Seen.{fixed_of, shape_of, steps_of};
 ghost use Rattle.host_turn.specs.Seats.{opening_of};
 ghost use Rattle.host_worker.specs.Accounts.{AreAccounted};
 ghost use Rattle.host_worker.specs.Ends.{AreEnded, hand_end};
-ghost use Rattle.host_worker.specs.Finishes.{AreClosed, AreHands, AreSessionsEnded, AreToEnd, HasRoomFor, HasTakenBack, IsEndOf, IsToEnd, finish_by, is_abort, last_event, without_room};
-ghost use Rattle.host_worker.specs.Servers.{IsServer};
+ghost use Rattle.host_worker.specs.Finishes.{AreClosed, AreHands, AreSessionsEnded, AreToEnd, HasRoomFor, HasTakenBack, IsEndOf, IsToEnd, without_room};
+ghost use Rattle.host_session.specs.Keeping.{AreKeptAs};
+ghost use Rattle.host_worker.specs.SessionEnds.{report_of};
+ghost use Rattle.host_worker.specs.Servers.{IsServer, keeps_of};
 ghost use Rattle.host_worker.specs.Shares.{HaveOneMore};
 
-use crate::finished::{Ends, Finished, SessionEnd, SessionEnds};
+use crate::finished::{Ends, Finished};
 use crate::hand::Hand;
 use crate::room::ClosingRoom;
 use crate::server::Server;
 use crate::session::Session;
+use crate::session_end::{SessionEnd, SessionEnds, put_end};
 use host_frames::{Pool, PoolSeat};
 use host_io::Disk;
-use host_model::{Event, Events};
 use host_record::Finish;
 use host_session::{ClientEnd, SessionHand, close_session};
 use std::snapshot::Snapshot;
@@ -33,6 +35,7 @@ impl<D: Disk> Server<D> {
         ensures ended { AreEnded clients.items (map hand_end hands.items) result.ends }
         ensures story { (result.ends.story ≡ (steps_of result.device).items) × (result.ends.size ≡ (shape_of result.device).size) }
         ensures device { fixed_of result.device ≡ fixed_of (opening_of self.device) }
+        ensures keeps { result.ends.keeps ≡ keeps_of self }
     {
         let mut room = room_in(&mut hands);
         let Server {
@@ -90,8 +93,10 @@ fn take_back<D: Disk>(room: &mut ClosingRoom<D>, sessions: &mut Vec<Session>, ha
             device_seat,
             pool_seat,
             sessions: share,
+            room: left,
             ..
         } = hand;
+        drop(left);
         room.device_seats.push_reserved(device_seat);
         room.pool_seats.push_reserved(pool_seat);
         put_back(sessions, share);
@@ -117,23 +122,25 @@ fn end_all(
     mut clients: Vec<ClientEnd>,
     mut ends: SessionEnds,
 ) -> SessionEnds
-    requires sessions { AreToEnd sessions.items clients.items }
+    requires sessions { AreToEnd ends.kept sessions.items clients.items }
     requires room { (ends.items ≡ []) × (length sessions.items ≤ ends.room) }
-    ensures { AreSessionsEnded sessions.items clients.items result.items }
+    ensures ended { AreSessionsEnded sessions.items clients.items result.items }
+    ensures kept { result.kept ≡ ends.kept }
 {
     sessions.reverse();
     clients.reverse();
     while let Some(session) = sessions.pop() {
         let client = clients.pop().unwrap();
-        ends.push(end_session(session, client));
+        put_end(&mut ends, end_session(session, client));
     }
     ends
 }
 
 // Ends one session.
 fn end_session(session: Session, client: ClientEnd) -> SessionEnd
-    requires { IsToEnd session client }
-    ensures { IsEndOf session client result }
+    requires { IsToEnd client.plan.spec.keeps session client }
+    ensures end { IsEndOf session client (report_of result) }
+    ensures kept { AreKeptAs client.plan.spec.keeps result.logs }
 {
     let Session {
         spec,
@@ -141,42 +148,24 @@ fn end_session(session: Session, client: ClientEnd) -> SessionEnd
         hands,
         ..
     } = session;
-    let (log, taken, memory) = close_session(shared.into_inner(), client, hands);
-    let finish = finish_in(&log);
+    let finish = finish_of(&client);
     SessionEnd {
         number: spec.number,
         part: spec.part_number,
         range: spec.part,
-        log,
-        taken,
-        memory,
+        logs: close_session(shared.into_inner(), client, hands),
         finish,
     }
 }
 
-// How a session ended, by the last event of its log.
-fn finish_in(log: &Events) -> Finish
-    ensures { result ≡ finish_by (last_event log.now.items) }
+// How a session that is closed was told to end.
+fn finish_of(client: &ClientEnd) -> Finish
+    requires { client.now.closed ≡ true }
+    ensures { client.now.finish ≡ Some result }
 {
-    match log.as_slice().last() {
-        Some(event) => finish_by(event),
-        None => Finish::Drain,
+    client.vouch();
+    match client.told_end() {
+        Some(finish) => finish,
+        None => unreachable!(),
     }
-}
-
-// How a session ended whose log ends with this event.
-fn finish_by(event: &Event) -> Finish
-    ensures { result ≡ finish_by (Some event.now) }
-{
-    if is_abort(event) {
-        Finish::Abort
-    } else {
-        Finish::Drain
-    }
-}
-
-fn is_abort(event: &Event) -> bool
-    ensures { result ≡ is_abort event.now }
-{
-    matches!(event, Event::Aborted)
 }

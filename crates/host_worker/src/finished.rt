@@ -1,15 +1,9 @@
 //! What a server ends with.
+use crate::session_end::SessionEnds;
 use host_device::Device;
 use host_io::Disk;
-use host_report::{SessionReport, SessionReports};
 use std::marker::Model;
 use std::snapshot::Snapshot;
-
-/// How one session ended.
-pub type SessionEnd = SessionReport;
-
-/// How the sessions ended, by their numbers.
-pub type SessionEnds = SessionReports;
 
 /// The device, and how the sessions of a server ended.
 #[derive(Drop)]
@@ -21,7 +15,8 @@ pub struct Finished<D: Disk> {
 
 /// How the sessions of a server ended, and how many frames are home. It has no maker but `Server::finish`.
 ///
-/// Contracts see the sessions, the frames, and the device's steps and the length of its blocks at that moment.
+/// Contracts see the sessions, whether they are kept, the frames, and the device's steps and the length of its blocks at that
+/// moment.
 #[derive(Drop)]
 pub struct Ends<D: Disk> {
     pub(crate) sessions: SessionEnds,
@@ -36,7 +31,7 @@ impl<D: Disk> Model for Ends<D> {
 
     ghost Value = { EndsState };
 
-    ghost view = { λ a. ends_seen a.sessions.items a.frames_home (steps_of a.left.value).items (shape_of a.left.value).size };
+    ghost view = { λ a. ends_seen a.sessions.items a.sessions.kept a.frames_home (steps_of a.left.value).items (shape_of a.left.value).size };
 
-    ghost invariant = { λ a. IsEnded (ends_seen a.sessions.items a.frames_home (steps_of a.left.value).items (shape_of a.left.value).size) };
+    ghost invariant = { λ a. IsEnded (ends_seen a.sessions.items a.sessions.kept a.frames_home (steps_of a.left.value).items (shape_of a.left.value).size) };
 }

@@ -1,9 +1,9 @@
 //! The report is gathered.
-ghost use Rattle.std.specs.Prelude.{◌≡◌, ◌++◌, IsTrue};
+ghost use Rattle.std.specs.Prelude.{◌≡◌, ◌++◌, ◌&&◌, is_some, IfSome, IsTrue};
 ghost use Rattle.host_device.specs.Faults.{RoseBy, faulted_count};
 ghost use Rattle.host_device.specs.Seen.{KeepsHistory, disk_of, opening_of, shape_of, steps_of};
 ghost use Rattle.host_report.specs.Lawful.{closing_steps};
-ghost use Rattle.host_worker.specs.Gathered.{IsGathered, reported};
+ghost use Rattle.host_worker.specs.Gathered.{IsGathered, report_on, reported};
 
 use crate::finished::{Ends, Finished};
 use host_block::BlockSize;
@@ -18,21 +18,24 @@ pub struct Served {
     report: Snapshot<Report>,
 }
 
-/// The report of a finished server, and the disk. The closing flush was made on the device as `closing` says. It takes no memory.
+/// The report of a finished server, where its histories are kept, and the disk. The closing flush was made on the device as
+/// `closing` says. It takes no memory.
 pub fn gather<D: Disk>(
     finished: Finished<D>,
     blocks: u64,
     size: BlockSize,
     which: Which,
     closing: Closing,
-) -> (Report, Served, D)
+) -> (Option<(Report, Served)>, D)
     requires story { (steps_of finished.device).items ≡ finished.ends.story ++ closing_steps closing }
     requires size { size ≡ finished.ends.size }
-    ensures gathered { IsGathered finished.ends result.0 }
-    ensures given { (result.0.blocks ≡ blocks) × (result.0.size ≡ size) × (result.0.which ≡ which) × (result.0.closing ≡ closing) }
-    ensures steps { result.0.steps ≡ steps_of finished.device }
-    ensures served { reported result.1 ≡ result.0 }
-    ensures disk { result.2 ≡ disk_of finished.device }
+    ensures report { IfSome result.0 (λ made. IsGathered finished.ends made.0) }
+    ensures given { IfSome result.0 (λ made. (made.0.blocks ≡ blocks) × (made.0.size ≡ size) × (made.0.which ≡ which) × (made.0.closing ≡ closing)) }
+    ensures steps { IfSome result.0 (λ made. made.0.steps.items ≡ (steps_of finished.device).items) }
+    ensures served { IfSome result.0 (λ made. reported made.1 ≡ made.0) }
+    ensures kept { is_some result.0 ≡ (finished.ends.keeps && (steps_of finished.device).kept) }
+    ensures gathered { IsGathered finished.ends (report_on finished.ends blocks which closing) }
+    ensures disk { result.1 ≡ disk_of finished.device }
     ensures told { IsTrue (shape_of finished.device).tells → KeepsHistory finished.device }
     ensures shape { shape_of finished.device ≡ D.shape (opening_of finished.device) }
     ensures opening { D.opening (disk_of finished.device) ≡ D.opening (opening_of finished.device) }
@@ -47,6 +50,13 @@ pub fn gather<D: Disk>(
     } = ends;
     device.keeps_history();
     let (steps, cache) = device.into_parts();
+    let disk = cache.into_disk();
+    let Some(sessions) = sessions.into_list() else {
+        return (None, disk);
+    };
+    let Some(steps) = steps.into_list() else {
+        return (None, disk);
+    };
     let report = Report {
         blocks,
         size,
@@ -59,5 +69,5 @@ pub fn gather<D: Disk>(
     let served = Served {
         report: Snapshot::of(&report),
     };
-    (report, served, cache.into_disk())
+    (Some((report, served)), disk)
 }

@@ -12,13 +12,14 @@ mod room;
 mod round;
 mod server;
 mod session;
+mod session_end;
 mod start;
 mod started;
 mod turned;
 mod wait;
 
 pub use ending::{abort, drain};
-pub use finished::{Ends, Finished, SessionEnd, SessionEnds};
+pub use finished::{Ends, Finished};
 pub use gathering::{Served, gather};
 pub use hand::Hand;
 pub use laws::content_is_of_own_entries;

@@ -7,11 +7,11 @@ ghost use Rattle.host_worker.specs.Starts.{AreDealt, AreOpened, HasGiven, HasOpe
 
 use crate::hand::Hand;
 use crate::session::Session;
+use crate::session_end::SessionEnds;
 use crossbeam_utils::CachePadded;
 use host_block::{BlockSize, Oom};
 use host_frames::{Pool, PoolSeat};
 use host_io::Disk;
-use host_report::SessionReports;
 use host_session::{ClientEnd, SessionHand, SessionSpec, open_session};
 use std::alloc::Global;
 use std::snapshot::Snapshot;
@@ -28,7 +28,7 @@ pub struct Prepared<D: Disk> {
     pub pool_seats: Vec<PoolSeat>,
     /// Empty, with room for all hands, and for what each session ends with.
     pub hands: Vec<Hand<D>>,
-    pub ends: SessionReports,
+    pub ends: SessionEnds,
 }
 
 /// Sessions, and their clients.
@@ -38,21 +38,22 @@ pub struct Opened {
     pub clients: Vec<ClientEnd>,
 }
 
-/// Takes all memory of a server but that of its device's book.
+/// Takes all memory of a server but that of its device's book. The reports of its sessions are kept or not.
 pub fn prepare<D: Disk>(
     alloc: Global,
     specs: &[SessionSpec],
     hands: u32,
     size: BlockSize,
+    keeps: bool,
 ) -> Result<Prepared<D>, Oom>
     requires hands { (1 ≤ hands) × (hands ≤ 4294967293) }
     requires specs { All (IsPlanned size) specs.now }
-    ensures { IfOk result (λ prepared. IsPrepared specs.now hands size prepared) }
+    ensures { IfOk result (λ prepared. IsPrepared specs.now hands size keeps prepared) }
 {
     let (pool, pool_seats) = Pool::new(alloc, FRAMES, size, hands)?;
     let mut opened = open_all(alloc, specs, hands, &pool)?;
     let shares = deal(alloc, &mut opened.sessions, hands)?;
-    let ends = SessionReports::with_room(alloc, specs.len() as u64)?;
+    let ends = SessionEnds::with_room(alloc, specs.len() as u64, keeps)?;
     let Ok(all) = Vec::with_capacity(alloc, hands as usize) else {
         return Err(Oom);
     };

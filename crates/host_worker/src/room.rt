@@ -1,7 +1,7 @@
+use crate::session_end::SessionEnds;
 use host_device::Device;
 use host_frames::PoolSeat;
 use host_io::Disk;
-use host_report::SessionReports;
 use host_turn::BookSeat;
 
 /// Room for what the closing calls take and give: empty while the server runs.
@@ -9,5 +9,5 @@ use host_turn::BookSeat;
 pub struct ClosingRoom<D: Disk> {
     pub device_seats: Vec<BookSeat<Device<D>>>,
     pub pool_seats: Vec<PoolSeat>,
-    pub ends: SessionReports,
+    pub ends: SessionEnds,
 }

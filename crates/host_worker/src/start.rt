@@ -28,10 +28,10 @@ impl<D: Disk> Server<D> {
     ) -> Result<Started<D>, NoServer<D>>
         requires hands { (1 ≤ hands) × (hands ≤ 4294967293) }
         requires device { ((steps_of device).items ≡ []) × ((shape_of device).size ≡ size) }
-        requires specs { AreSpecs (shape_of device).blocks size specs.now }
+        requires specs { AreSpecs (steps_of device).kept (shape_of device).blocks size specs.now }
         ensures { MatchResult result (λ started. IsStarted device specs.now hands started) (λ refused. refused.device ≡ device) }
     {
-        match prepare(alloc, specs, hands, size) {
+        match prepare(alloc, specs, hands, size, device.is_kept()) {
             Ok(prepared) => open_server(alloc, device, hands, prepared),
             Err(Oom) => Err(NoServer { device }),
         }
@@ -47,8 +47,8 @@ fn open_server<D: Disk>(
 ) -> Result<Started<D>, NoServer<D>>
     requires some { 1 ≤ hands }
     requires device { (steps_of device).items ≡ [] }
-    requires specs { AreSpecs (shape_of device).blocks (shape_of device).size (specs_of prepared.opened.sessions.items) }
-    requires prepared { IsPrepared (specs_of prepared.opened.sessions.items) hands (shape_of device).size prepared }
+    requires specs { AreSpecs (steps_of device).kept (shape_of device).blocks (shape_of device).size (specs_of prepared.opened.sessions.items) }
+    requires prepared { IsPrepared (specs_of prepared.opened.sessions.items) hands (shape_of device).size (steps_of device).kept prepared }
     ensures { MatchResult result (λ started. IsStarted device (specs_of prepared.opened.sessions.items) hands started) (λ refused. refused.device ≡ device) }
 {
     let Prepared {

@@ -153,6 +153,6 @@ impl Bench {
         let Phase::Closed = intake.phase() else {
             return None;
         };
-        Some(intake.into_parts().rows)
+        intake.into_parts().rows.into_list()
     }
 }

@@ -14,7 +14,7 @@ use host_block::{BlockSize, Oom, Range};
 use host_frames::{Pages, Pool, PoolSeat};
 use host_group::Cells;
 use host_intake::Intake;
-use host_memory::Memory;
+use host_memory::{Memory, MemoryLimits};
 use host_rings::{Sender, request_ring};
 use host_turn::{Book, BookSeat, Story};
 use std::alloc::Global;
@@ -86,7 +86,16 @@ fn open_memory(
     ensures client { IfOk result (λ r. IsSeatFor (book_id r.0) (plan_for size (pool_id pool.now)) 1 r.2) }
     ensures hand { IfOk result (λ r. IsSeatFor (book_id r.0) (plan_for size (pool_id pool.now)) 0 r.3) }
 {
-    let memory = Memory::new(alloc, size, 8, 64, RECORDS, 8, 1, pool)?;
+    let limits = MemoryLimits {
+        size,
+        ids: 8,
+        room: 64,
+        records: RECORDS,
+        moves: 8,
+        hands: 1,
+        keeps: true,
+    };
+    let memory = Memory::new(alloc, limits, pool)?;
     let Ok((book, mut seats)) = Book::new(alloc, memory, 3) else {
         return Err(Oom);
     };
@@ -112,7 +121,9 @@ fn open_intake(
 {
     let (sender, taker) = request_ring(alloc, 128, RECORDS)?;
     let (cells, admitting) = Cells::new(alloc)?;
-    let intake = Intake::new(alloc, part, size, RECORDS, taker, admissions, admitting)?;
+    let intake = Intake::new(
+        alloc, part, size, RECORDS, true, taker, admissions, admitting,
+    )?;
     Ok((sender, cells, intake))
 }
 

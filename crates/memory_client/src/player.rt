@@ -11,7 +11,7 @@ ghost use Rattle.memory_client.specs.Played.{IsPlayed};
 use crate::done::{has_block, is_first_pin, is_open, is_pinned};
 use host_block::{BlockSize, Oom};
 use host_frames::{Pages, Pool, PoolSeat};
-use host_memory::Memory;
+use host_memory::{Memory, MemoryLimits};
 use host_model::{MemEvent, SharedBytes};
 use std::alloc::Global;
 
@@ -71,7 +71,16 @@ impl Player {
         let Ok(done) = Vec::with_capacity(alloc, ENTRIES as usize) else {
             return Err(Oom);
         };
-        let memory = Memory::new(alloc, size, IDS, 6000, ENTRIES, 1, HANDS, pool)?;
+        let limits = MemoryLimits {
+            size,
+            ids: IDS,
+            room: 6000,
+            records: ENTRIES,
+            moves: 1,
+            hands: HANDS,
+            keeps: true,
+        };
+        let memory = Memory::new(alloc, limits, pool)?;
         Ok(Player { memory, done })
     }
 

@@ -1,2 +1,3 @@
+pub mod Kills
 pub mod Placed
 pub mod Runs

@@ -66,6 +66,7 @@ module _ (tells : Bool) (image : List (List ℕ)) (start : Start) (workers depth
   laid_out blocks = record {
     layout = placed.layout;
     blocks = placed.blocks ∙ sym blocks;
+    used = placed.used;
     ranges = all_by (λ (s : SessionReport). IsRangeOf placed.layout s.part s.range) report.sessions.items its_range;
   }
 

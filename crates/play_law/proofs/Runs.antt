@@ -5,7 +5,7 @@ use Rattle.host_report.specs.Lawful.{IsLawful}
 use Rattle.host_report.specs.declared.report.Report.{Report}
 use Rattle.host_start.specs.declared.start.Start.{Start}
 use Rattle.report_law.proofs.Reports.{gathered_reports_are_lawful}
-use Rattle.crash_law.proofs.Survival.{flushed_writes_survive}
+use Rattle.crash_law.proofs.Survival.{flushed_at_the_end, flushed_writes_survive}
 use Rattle.play_law.specs.Runs.{IsRunOn, PlayedRunsAreLaidOut, PlayedRunsAreSound}
 use Rattle.play_law.proofs.Placed.{laid_out, on_table}
 
@@ -25,5 +25,6 @@ played_runs_are_sound image start workers depth report state run =
     record {
       lawful = lawful;
       crashes = run.keeps.crashes;
-      flushed = λ left is_left. flushed_writes_survive image report left lawful (run.keeps.crashes left is_left);
+      flushed = λ left is_left. flushed_at_the_end image report left lawful (run.keeps.crashes left is_left);
+      moments = flushed_writes_survive image report lawful;
     }

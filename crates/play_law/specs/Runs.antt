@@ -3,6 +3,7 @@ use Rattle.std.specs.Prelude.{◌≡◌, Bool, ℕ, true, List, map}
 use Rattle.std.specs.List.{AllByRecursion}
 use Rattle.host_block.specs.Crash.{IsCrashImage}
 use Rattle.host_block.specs.Disk.{DiskState, IsCrashOf}
+use Rattle.host_gpt.specs.Entries.{AreUsed}
 use Rattle.host_model.specs.Changes.{changes_of}
 use Rattle.host_part.specs.Ranges.{IsRangeOf}
 use Rattle.host_part.specs.Served.{Layout}
@@ -12,7 +13,7 @@ use Rattle.host_start.specs.declared.start.Start.{Start}
 use Rattle.host_start.specs.Images.{IsPlaced}
 use Rattle.script_model.specs.Plans.{plans_of}
 use Rattle.host_play.specs.Plays.{IsReportOf, KeepsImage}
-use Rattle.crash_law.specs.Survival.{KeepsFlushed}
+use Rattle.crash_law.specs.Survival.{KeepsAtEachMoment, KeepsFlushed}
 
 -- What is known of a run on a disk that tells its content: its start found the partitions of the script's sessions on this
 -- image, the sessions were played on these partitions by a server that then was finished, and the disk, which opened with the
@@ -25,17 +26,21 @@ pub record IsRunOn (image : List (List ℕ)) (start : Start) (workers depth : �
   pub report_of : IsReportOf (plans_of start.script) (map (λ place. place.range) start.places.items) workers depth report
   pub keeps : KeepsImage image start.blocks start.size (changes_of report.steps.items) state
 
--- The report is lawful for the image, and a crash leaves an image that its steps allow, in which has survived what was flushed.
+-- The report is lawful for the image, and a crash leaves an image that its steps allow, in which has survived what was flushed;
+-- so it was at every moment of the run.
 pub record IsSound (image : List (List ℕ)) (report : Report) (state : DiskState) : Type 0 where
   pub lawful : IsLawful image report
   pub crashes : (left : List (List ℕ)) → IsCrashOf state left → IsCrashImage image (changes_of report.steps.items) left
-  pub flushed : (left : List (List ℕ)) → IsCrashOf state left → KeepsFlushed image report left
+  pub flushed : (left : List (List ℕ)) → IsCrashOf state left → KeepsFlushed image report report.steps.items left
+  pub moments : KeepsAtEachMoment image report
 
 -- The sessions of a report are on the ranges that one layout on its blocks gives to their partitions. So sessions on two
--- partitions share no block, and each range lies among the blocks.
+-- partitions share no block, and each range lies among the blocks. The layout's entries are used ones by rising number; so a
+-- partition is one range.
 pub record IsLaidOut (report : Report) : Type 0 where
   pub layout : Layout
   pub blocks : layout.blocks ≡ report.blocks
+  pub used : AreUsed layout.entries
   pub ranges : AllByRecursion (λ s. IsRangeOf layout s.part s.range) report.sessions.items
 
 -- on whatever disk, also one that tells nothing

@@ -3,4 +3,4 @@
 
 mod laws;
 
-pub use laws::{played_runs_are_laid_out, played_runs_are_sound};
+pub use laws::{flushed_writes_survive_kills, played_runs_are_laid_out, played_runs_are_sound};

@@ -1,20 +1,19 @@
 -- What a crash leaves of a block that was written, flushed and written over.
-use Rattle.std.proofs.Common.{◌≡◌, ◌∙◌, ℕ, zero, suc, ◌<◌, ◌≤◌, Bool, true, false, List, [], ◌∷◌, Option, Some, None, refl, sym, ap, arith}
+use Rattle.std.proofs.Common.{◌≡◌, ◌∙◌, ℕ, zero, suc, ◌<◌, ◌≤◌, Bool, true, false, List, [], ◌∷◌, take, Option, Some, None, refl, sym, ap, arith}
 use Rattle.std.specs.List.{slice_get}
-use Rattle.crash_law.specs.Survival.{HasSurvived, IsDone, KeepsFlushed}
-use Rattle.host_block.specs.Changes.{changes_block, content, put_by}
+use Rattle.crash_law.specs.Survival.{KeepsFlushed, WasFlushed, WerePutSince, WroteBlock}
+use Rattle.host_block.specs.Changes.{changes_block, content, is_barrier, put_by}
 use Rattle.host_block.specs.Crash.{IsCrashImage, IsVersion}
 use Rattle.host_block.specs.Disk.{block_at}
+use Rattle.host_block.specs.declared.op.Op.TheVariants as op
 use Rattle.host_model.specs.Changes.{change_of, changes_of}
 use Rattle.host_model.specs.Log.{sending}
 use Rattle.host_model.specs.Order.{HadBefore}
 use Rattle.host_model.specs.declared.step.Step.{Step}
-use Rattle.host_record.specs.Command.{opcode}
-use Rattle.host_record.specs.declared.opcode.Opcode.TheVariants.{Flush, Write}
 use Rattle.host_report.specs.Lawful.{session_of}
-use Rattle.play_rows.specs.Crash.{CrashKeepsFlushed, image, left, log, report, session, steps}
+use Rattle.play_rows.specs.Crash.{CrashKeepsFlushed, image, left, log, report, session, step, steps}
 
-abbrev first_byte : List ℕ → ℕ
+abbrev pub first_byte : List ℕ → ℕ
 first_byte [] = 0
 first_byte (b ∷ bytes) = b
 
@@ -55,42 +54,69 @@ beside bytes v = at v.place refl
 
 -- ---- what was flushed
 
-write_done : IsDone (session_of report session) 0 Write
-unfolding opcode
-write_done = record { taken = omega arith; asks = refl; ended = refl }
+pub wrote : WroteBlock steps 1 0 0 0
+wrote = record { step = step 0 op.Write (1 ∷ []); stands = refl; names = (refl, refl); writes = refl }
 
-flush_done : IsDone (session_of report session) 1 Flush
-unfolding opcode
-flush_done = record { taken = omega arith; asks = refl; ended = refl }
+-- the flush is among the first two steps, and so among all
+pub flushed : WasFlushed (take 2 steps) 1 1
+flushed = record { place = 1; step = step 1 op.Flush []; stands = refl; names = (refl, refl); flushes = refl }
+
+flushed_of_all : WasFlushed steps 1 1
+flushed_of_all = record { place = 1; step = step 1 op.Flush []; stands = refl; names = (refl, refl); flushes = refl }
 
 -- the write's answer stands in the log before the flush
-had : HadBefore (session_of report session) (sending log 1) 0
+pub had : HadBefore (session_of report session) (sending log 1) 0
 had = (3, omega arith, refl)
 
-abbrev byte_of : Option Step → ℕ
-byte_of (Some step) = first_byte (put_by 1 step.op step.bytes)
+abbrev pub byte_of : Option Step → ℕ
+byte_of (Some x) = first_byte (put_by 1 x.op x.bytes)
 byte_of None = 0
 
 abbrev changes_zero : Option Step → Bool
-changes_zero (Some step) = changes_block (change_of step) 0
+changes_zero (Some x) = changes_block (change_of x) 0
 changes_zero None = false
 
-never : false ≡ true → ⊥
+pub never : false ≡ true → ⊥
 never e = cc e
 
 -- a step that put bytes into block 0 put the first write's there, or the second's
-put_there : (p : ℕ) (step : Step) → slice_get steps p ≡ Some step → changes_block (change_of step) 0 ≡ true → ¬ (first_byte (put_by 1 step.op step.bytes) ≡ 1) → ¬ (first_byte (put_by 1 step.op step.bytes) ≡ 2) → ⊥
-put_there zero step stands writes one two = one (sym (ap byte_of stands))
-put_there (suc zero) step stands writes one two = never (ap changes_zero stands ∙ writes)
-put_there (suc (suc zero)) step stands writes one two = two (sym (ap byte_of stands))
-put_there (suc (suc (suc p))) step stands writes one two = never (ap changes_zero stands ∙ writes)
+pub put_there : (p : ℕ) (x : Step) → slice_get steps p ≡ Some x → changes_block (change_of x) 0 ≡ true → ¬ (first_byte (put_by 1 x.op x.bytes) ≡ 1) → ¬ (first_byte (put_by 1 x.op x.bytes) ≡ 2) → ⊥
+put_there zero x stands writes one two = one (sym (ap byte_of stands))
+put_there (suc zero) x stands writes one two = never (ap changes_zero stands ∙ writes)
+put_there (suc (suc zero)) x stands writes one two = two (sym (ap byte_of stands))
+put_there (suc (suc (suc p))) x stands writes one two = never (ap changes_zero stands ∙ writes)
 
-survived : (byte : ℕ) → KeepsFlushed image report (left byte) → ¬ (byte ≡ 1) → ¬ (byte ≡ 2) → ⊥
+survived : (byte : ℕ) → KeepsFlushed image report steps (left byte) → ¬ (byte ≡ 1) → ¬ (byte ≡ 2) → ⊥
 survived byte keeps one two =
-    let block : HasSurvived image steps 1 0 0 (left byte) = keeps 0 session refl 0 1 Write refl write_done flush_done had 0 (omega arith) in
-    let since = block.left in
+    let since : WerePutSince steps 1 0 0 (byte ∷ []) = keeps 0 session refl 0 1 had flushed_of_all 0 0 wrote in
     let are : byte ≡ first_byte (put_by 1 since.step.op since.step.bytes) = ap first_byte since.are in
     put_there since.later since.step since.stands since.writes (λ e. one (are ∙ e)) (λ e. two (are ∙ e))
+
+-- one of the first two steps put the first write's there
+put_by_then : (p : ℕ) (x : Step) → slice_get (take 2 steps) p ≡ Some x → changes_block (change_of x) 0 ≡ true → first_byte (put_by 1 x.op x.bytes) ≡ 1
+put_by_then zero x stands writes = sym (ap byte_of stands)
+put_by_then (suc zero) x stands writes = absurd (never (ap changes_zero stands ∙ writes))
+put_by_then (suc (suc zero)) x stands writes = absurd (never (ap changes_zero stands ∙ writes))
+put_by_then (suc (suc (suc p))) x stands writes = absurd (never (ap changes_zero stands ∙ writes))
+
+survived_then : (byte : ℕ) → KeepsFlushed image report (take 2 steps) (left byte) → byte ≡ 1
+survived_then byte keeps =
+    let since : WerePutSince (take 2 steps) 1 0 0 (byte ∷ []) = keeps 0 session refl 0 1 had flushed 0 0 wrote in
+    ap first_byte since.are ∙ put_by_then since.later since.step since.stands since.writes
+
+-- ---- before the flush
+
+abbrev pub flushes : Option Step → Bool
+flushes (Some x) = is_barrier (change_of x)
+flushes None = false
+
+no_flush : (p : ℕ) (x : Step) → slice_get (take 1 steps) p ≡ Some x → is_barrier (change_of x) ≡ true → ⊥
+no_flush zero x stands is = never (ap flushes stands ∙ is)
+no_flush (suc zero) x stands is = never (ap flushes stands ∙ is)
+no_flush (suc (suc p)) x stands is = never (ap flushes stands ∙ is)
+
+not_yet : (after : List (List ℕ)) → KeepsFlushed image report (take 1 steps) after
+not_yet after n e at w f _ flushed b place _ = absurd (no_flush flushed.place flushed.step flushed.stands flushed.flushes)
 
 -- ---- the rows
 
@@ -109,4 +135,7 @@ crash_keeps_flushed = record {
   not_beside = λ h. let e : 8 ≡ 7 = beside (8 ∷ []) (h.each 1 (omega arith)) in absurd (omega (arith, e));
   not_lost = λ h. survived 0 h (differs 0 1 (omega arith)) (differs 0 2 (omega arith));
   not_made_up = λ h. survived 3 h (exceeds 3 1 (omega arith)) (exceeds 3 2 (omega arith));
+  not_yet = not_yet;
+  not_lost_then = λ h. differs 0 1 (omega arith) (survived_then 0 h);
+  not_later_then = λ h. exceeds 2 1 (omega arith) (survived_then 2 h);
 }

@@ -1,3 +1,4 @@
 pub mod Opened
 pub mod Lines
 pub mod Crash
+pub mod Missing

@@ -1,5 +1,5 @@
 -- What a crash leaves of a block that was written, flushed and written over.
-use Rattle.std.specs.Prelude.{ℕ, false, List, [], ◌∷◌, length}
+use Rattle.std.specs.Prelude.{ℕ, false, List, [], ◌∷◌, length, take}
 use Rattle.crash_law.specs.Survival.{KeepsFlushed}
 use Rattle.host_block.specs.Crash.{IsCrashImage}
 use Rattle.host_block.specs.Room.{WithRoom}
@@ -84,6 +84,10 @@ pub record CrashKeepsFlushed : Type 0 where
   pub not_before : ¬ IsCrashImage image (changes_of steps) (left 0)
   pub not_else : ¬ IsCrashImage image (changes_of steps) (left 3)
   pub not_beside : ¬ IsCrashImage image (changes_of steps) ((1 ∷ []) ∷ (8 ∷ []) ∷ [])
-  -- by the clause on what was flushed the first write has survived in neither of the first two
-  pub not_lost : ¬ KeepsFlushed image report (left 0)
-  pub not_made_up : ¬ KeepsFlushed image report (left 3)
+  -- by the clause on what was flushed the first write has survived in neither of these two
+  pub not_lost : ¬ KeepsFlushed image report steps (left 0)
+  pub not_made_up : ¬ KeepsFlushed image report steps (left 3)
+  -- before the flush's step nothing is promised; after it the write is, and the later one isn't made yet
+  pub not_yet : (after : List (List ℕ)) → KeepsFlushed image report (take 1 steps) after
+  pub not_lost_then : ¬ KeepsFlushed image report (take 2 steps) (left 0)
+  pub not_later_then : ¬ KeepsFlushed image report (take 2 steps) (left 2)

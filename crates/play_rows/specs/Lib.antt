@@ -1,3 +1,4 @@
 pub mod Crash
 pub mod Lines
+pub mod Missing
 pub mod Opened

@@ -4,4 +4,7 @@
 
 mod rows;
 
-pub use rows::{a_client_plays_its_lines, a_crash_keeps_what_was_flushed, sessions_are_opened};
+pub use rows::{
+    a_client_plays_its_lines, a_crash_keeps_what_was_flushed,
+    each_part_of_what_was_flushed_excludes, sessions_are_opened,
+};

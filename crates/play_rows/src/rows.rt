@@ -1,6 +1,7 @@
 //! Rows that are written out.
 ghost use Rattle.play_rows.specs.Crash.{CrashKeepsFlushed};
 ghost use Rattle.play_rows.specs.Lines.{PlaysLines};
+ghost use Rattle.play_rows.specs.Missing.{FlushedPartsExclude};
 ghost use Rattle.play_rows.specs.Opened.{OpensSessions};
 
 /// Two sessions are opened with room for what their lines can make.
@@ -16,4 +17,9 @@ pub fn a_client_plays_its_lines()
 /// A write is answered, then flushed, then written over: what a crash may leave, and what it may not.
 pub fn a_crash_keeps_what_was_flushed()
     ensures { CrashKeepsFlushed }
+{}
+
+/// What was had, flushed, written and put by these steps, and what wasn't: no part of the clause holds of everything.
+pub fn each_part_of_what_was_flushed_excludes()
+    ensures { FlushedPartsExclude }
 {}

@@ -4,7 +4,7 @@ use Rattle.std.proofs.lemmas.List.{length-append}
 use Rattle.host_report.specs.declared.report.Report.{Report}
 use Rattle.host_run.specs.Ending.{IsItsScript, IsNoScript, IsNoStart, IsRefused, IsScriptOf, SaysNoScript, StandsThere}
 use Rattle.host_run.specs.Headline.{Headline}
-use Rattle.host_run.specs.Played.{LeavesPlayed}
+use Rattle.host_run.specs.Played.{LeavesPlayed, SaysCause}
 use Rattle.host_run.specs.Refusals.{start_status}
 use Rattle.host_run.specs.Runs.{RunLeaves}
 use Rattle.host_run.specs.Scene.{Scene, site_of}
@@ -96,17 +96,23 @@ same_plans size None before after plans its stands script =
     let good : script_of before.left ≡ Ok plans = stands.1.meant in cc
 same_plans size (Some making) before after plans its stands script = script.0 ∙ sym stands.0
 
--- where a script stands there, the refusal says its cause in the image, or tells of a failure
-pub refused_on : (scene : Scene) (plans : List SessionPlan) (image : List (List ℕ)) (due status : RunStatus) → IsAskedOn scene plans image
-    → ((e : StartError) → IsAfterScript e → SaysOfImage image (parts_of plans) e → IsDue IsFailure due (start_status e)) → IsRefused scene status → IsDue IsFailure due status
-refused_on scene plans image due status asked told because = told_by IsFailure due status because.error because.is (from because.error because.why)
+-- where a script stands there, the refusal says its cause, or tells of a failure
+pub refused_by : (scene : Scene) (plans : List SessionPlan) (due status : RunStatus) → StandsThere scene.playing.size scene.playing.making scene.source plans
+    → ((e : StartError) → IsAfterScript e → SaysCause (site_of scene) plans e → IsDue IsFailure due (start_status e)) → IsRefused scene status → IsDue IsFailure due status
+refused_by scene plans due status stands told because = told_by IsFailure due status because.error because.is (from because.error because.why)
   where
     from : (e : StartError) → IsNoScript scene e ⊎ IsNoStart scene e → IsDue IsFailure due (start_status e)
     from e (inl unplayed) =
-        elim (no_script scene.playing.size scene.playing.making scene.source scene.new_source plans e asked.script unplayed.cause unplayed.says) [
+        elim (no_script scene.playing.size scene.playing.making scene.source scene.new_source plans e stands unplayed.cause unplayed.says) [
           | inl source ↦ inr (inr (inl (ap start_status source)))
           | inr memory ↦ inr (inr (inr (ap start_status memory)))
         ]
     from e (inr unplayed) =
-        let same = same_plans scene.playing.size scene.playing.making scene.source scene.new_source plans unplayed.plans asked.script unplayed.script in
-        told e unplayed.cause (subst (λ (p : List SessionPlan). SaysOfImage image (parts_of p) e) same (subst (λ (i : List (List ℕ)). SaysOfImage i (parts_of unplayed.plans) e) asked.held (unplayed.says asked.tells)))
+        let same = same_plans scene.playing.size scene.playing.making scene.source scene.new_source plans unplayed.plans stands unplayed.script in
+        told e unplayed.cause (subst (λ (p : List SessionPlan). SaysCause (site_of scene) p e) same unplayed.says)
+
+-- a cause in the image, where the disk tells that
+pub refused_on : (scene : Scene) (plans : List SessionPlan) (image : List (List ℕ)) (due status : RunStatus) → IsAskedOn scene plans image
+    → ((e : StartError) → IsAfterScript e → SaysOfImage image (parts_of plans) e → IsDue IsFailure due (start_status e)) → IsRefused scene status → IsDue IsFailure due status
+refused_on scene plans image due status asked told =
+    refused_by scene plans due status asked.script (λ e cause says. told e cause (subst (λ (i : List (List ℕ)). SaysOfImage i (parts_of plans) e) asked.held (says.told asked.tells)))

@@ -13,7 +13,7 @@ use Rattle.host_run.specs.Refusals.{start_status}
 use Rattle.host_run.specs.Scene.{PlayedDisk, Scene, copy_or, image_at, opening_image, site_of}
 use Rattle.host_run.specs.declared.status.RunStatus.{RunStatus}
 use Rattle.host_run.specs.declared.status.RunStatus.TheVariants.{NoPart, NoTable, TooLarge}
-use Rattle.host_start.specs.Images.{IsLayoutOn, IsServedPart, IsSmallEnough, LacksPart, SaysOfImage, parts_of}
+use Rattle.host_start.specs.Images.{IsLayoutOn, IsServedPart, IsSmallEnough, LacksPart, SaysOfBlocks, SaysOfImage, parts_of}
 use Rattle.host_start.specs.Refusals.{IsAfterScript}
 use Rattle.host_start.specs.declared.error.Limit.TheVariants as limit
 use Rattle.host_start.specs.declared.error.StartError.{StartError}
@@ -21,8 +21,8 @@ use Rattle.host_start.specs.declared.error.StartError.TheVariants as error
 use Rattle.script_model.specs.Plans.{SessionPlan}
 use Rattle.script_played.specs.Played.{PlaysPlans}
 use Rattle.run_law.specs.Ends.{IsDue, IsFailure}
-use Rattle.run_law.specs.Images.{AbsentTablesAreTold, IsAskedOn, LargeImagesAreTold, LargeTablesAreTold, UnservedSessionsAreTold}
-use Rattle.run_law.proofs.Ends.{ends, refused_on, same_plans}
+use Rattle.run_law.specs.Images.{AbsentTablesAreTold, IsAskedOn, LargeDisksAreTold, LargeImagesAreTold, LargeTablesAreTold, UnservedSessionsAreTold}
+use Rattle.run_law.proofs.Ends.{ends, refused_by, refused_on, same_plans}
 use Rattle.run_law.proofs.Firsts.{one_lack, same_layout, served_each}
 
 -- ---- a report on the image
@@ -81,6 +81,21 @@ by_cause image parts due (error.TooLarge limit.Sessions) many absent large lacks
 by_cause image parts due (error.TooLarge limit.Records) many absent large lacks cause says = absurd cause
 by_cause image parts due (error.TooLarge limit.Moved) many absent large lacks cause says = absurd cause
 
+-- the status by the blocks of the disk, which are too many
+by_blocks : (blocks : ℕ) (e : StartError) → 262144 < blocks → IsAfterScript e → SaysOfBlocks blocks e → IsDue IsFailure (TooLarge limit.Blocks) (start_status e)
+by_blocks blocks error.Disk many cause says = inr (inl refl)
+by_blocks blocks error.Oom many cause says = inr (inr (inr refl))
+by_blocks blocks (error.TooLarge limit.Blocks) many cause says = inl refl
+by_blocks blocks (error.TooLarge limit.Table) many cause says = absurd (omega (arith, many, says))
+by_blocks blocks error.NoTable many cause says = absurd (omega (arith, many, says))
+by_blocks blocks (error.NoPart session part) many cause says = absurd (omega (arith, many, says))
+by_blocks blocks error.Source many cause says = absurd cause
+by_blocks blocks (error.BadScript line word) many cause says = absurd cause
+by_blocks blocks (error.TooLarge limit.ScriptBytes) many cause says = absurd cause
+by_blocks blocks (error.TooLarge limit.Sessions) many cause says = absurd cause
+by_blocks blocks (error.TooLarge limit.Records) many cause says = absurd cause
+by_blocks blocks (error.TooLarge limit.Moved) many cause says = absurd cause
+
 -- ---- the laws
 
 pub large_images_are_told : LargeImagesAreTold
@@ -119,3 +134,11 @@ unserved_sessions_are_told scene status report plans image session part left ask
     never r headline disks =
         let same = same_plans scene.playing.size scene.playing.making scene.source scene.new_source plans headline.played.plans asked.script headline.played.script in
         lacks_none image r plans session part (lawful_there scene plans image r asked headline disks) (subst (λ (p : List SessionPlan). PlaysPlans p r) same headline.played.is.played) lacks
+
+pub large_disks_are_told : LargeDisksAreTold
+large_disks_are_told scene status report plans left stands many =
+    ends scene IsFailure (TooLarge limit.Blocks) status report left never
+    (refused_by scene plans (TooLarge limit.Blocks) status stands (λ e cause says. by_blocks scene.new_disk.shape.blocks e many cause says.blocks))
+  where
+    never : (r : Report) → Headline scene r → LeavesPlayed (site_of scene) scene.playing.cut r → ⊥
+    never r headline disks = let few = disks.few in let own = disks.own_blocks in absurd (omega (arith, few, own, many))

@@ -38,3 +38,9 @@ LargeTablesAreTold = (scene : Scene) (status : RunStatus) (report : Option Repor
 abbrev pub UnservedSessionsAreTold : Type 0
 UnservedSessionsAreTold = (scene : Scene) (status : RunStatus) (report : Option Report) (plans : List SessionPlan) (image : List (List ℕ)) (session part : ℕ) → RunLeaves scene status report
     → IsAskedOn scene plans image → IsSmallEnough image → LacksPart image (parts_of plans) session part → EndsWith IsFailure (NoPart session part) status report
+
+-- On whatever disk, also one that tells nothing: where a script stands there and the disk is left with too many blocks, no
+-- session began, and the run ends with 9 `blocks`, unless disk or source failed or memory was refused.
+abbrev pub LargeDisksAreTold : Type 0
+LargeDisksAreTold = (scene : Scene) (status : RunStatus) (report : Option Report) (plans : List SessionPlan) → RunLeaves scene status report
+    → StandsThere scene.playing.size scene.playing.making scene.source plans → 262144 < scene.new_disk.shape.blocks → EndsWith IsFailure (TooLarge limit.Blocks) status report

@@ -1,5 +1,5 @@
 //! Laws over what a run leaves, each the contract of a function that does nothing.
-ghost use Rattle.run_law.specs.Images.{AbsentTablesAreTold, LargeImagesAreTold, LargeTablesAreTold, UnservedSessionsAreTold};
+ghost use Rattle.run_law.specs.Images.{AbsentTablesAreTold, LargeDisksAreTold, LargeImagesAreTold, LargeTablesAreTold, UnservedSessionsAreTold};
 ghost use Rattle.run_law.specs.Scripts.{BadScriptsAreTold, LongScriptsAreTold, MadeLimitsAreTold, PassedLimitsAreTold};
 
 /// A script with a bad line is refused by its first bad line and the first cause in it.
@@ -25,6 +25,11 @@ pub fn made_limits_are_told()
 /// An image with too many blocks is refused as such.
 pub fn large_images_are_told()
     ensures { LargeImagesAreTold }
+{}
+
+/// So is one on a disk that doesn't tell its content.
+pub fn large_disks_are_told()
+    ensures { LargeDisksAreTold }
 {}
 
 /// An image without a table is refused as such.

@@ -4,7 +4,7 @@
 mod laws;
 
 pub use laws::{
-    absent_tables_are_told, bad_scripts_are_told, large_images_are_told, large_tables_are_told,
-    long_scripts_are_told, made_limits_are_told, passed_limits_are_told,
+    absent_tables_are_told, bad_scripts_are_told, large_disks_are_told, large_images_are_told,
+    large_tables_are_told, long_scripts_are_told, made_limits_are_told, passed_limits_are_told,
     unserved_sessions_are_told,
 };

@@ -1,7 +1,7 @@
 -- The table of the small disk, and its partition.
 use Rattle.std.proofs.Common.{◌≡◌, ◌≢◌, ℕ, zero, suc, ◌<◌, List, [], ◌∷◌, length, inl, inr, refl, arith, lit<, lit≤}
-use Rattle.std.specs.Prelude.{replicate, slice_index_or, Contains}
-use Rattle.host_gpt.specs.Entries.{entries_from, units, used}
+use Rattle.std.specs.Prelude.{replicate, slice_index_or, Contains, IsTrue, not}
+use Rattle.host_gpt.specs.Entries.{AreUsed, entries_from, is_zero, units, used}
 use Rattle.host_gpt.specs.Header.{Agrees, number_at}
 use Rattle.host_gpt.specs.Table.{IsTable, IsValid}
 use Rattle.host_gpt.specs.declared.entry.Entry.{Entry}
@@ -38,6 +38,14 @@ is_table = record {
 
 abbrev pub layout : Layout
 layout = record { first_usable = 3; last_usable = 4; blocks = 5; entries = entry ∷ [] }
+
+-- its one entry is a used one
+its_type : (k : ℕ) (e : Entry) → k < 1 → IsTrue (not (is_zero (slice_index_or (entry ∷ []) k e).type_id))
+its_type zero e within = refl
+its_type (suc k) e within = absurd (omega (arith, within))
+
+pub are_used : AreUsed layout.entries
+are_used = record { used = its_type; rising = λ k within. absurd (omega (arith, within)) }
 
 -- the table has this entry alone
 pub only_entry : (e : Entry) → Contains (entry ∷ []) e → entry ≡ e

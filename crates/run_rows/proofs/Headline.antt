@@ -1,8 +1,8 @@
 -- The headline of the written run, field by field.
 use Rattle.std.proofs.Common.{◌≡◌, inl, ℕ, Bool, true, false, List, [], ◌∷◌, Some, refl, sym, subst, lit≤, replicate}
 use Rattle.std.specs.Fmt.{digits}
-use Rattle.crash_law.proofs.Survival.{flushed_writes_survive}
-use Rattle.crash_law.specs.Survival.{KeepsFlushed}
+use Rattle.crash_law.proofs.Survival.{flushed_at_the_end, flushed_writes_survive}
+use Rattle.crash_law.specs.Survival.{KeepsAtEachMoment, KeepsFlushed}
 use Rattle.host_block.specs.Crash.{IsCrashImage}
 use Rattle.host_block.specs.Disk.{DiskState, IsCrashOf}
 use Rattle.host_io.specs.MemDisk.{state_of}
@@ -17,7 +17,7 @@ use Rattle.model_rows.proofs.Legal.{legal-from}
 use Rattle.host_report.specs.Lawful.{IsLawful, session_of}
 use Rattle.host_report.specs.Text.{report_text}
 use Rattle.host_run.specs.Ending.{IsItsScript}
-use Rattle.host_run.specs.Headline.{Headline, OutlivesCrash}
+use Rattle.host_run.specs.Headline.{Headline, KeepsWhatWasFlushed, OutlivesCrash}
 use Rattle.host_run.specs.Played.{LeavesPlayed}
 use Rattle.host_run.specs.Runs.{RunLeaves}
 use Rattle.host_run.specs.Scene.{opening_image, site_of}
@@ -25,12 +25,12 @@ use Rattle.host_run.specs.Writes.{TellsRun}
 use Rattle.host_run.specs.declared.status.RunStatus.TheVariants.{Done}
 use Rattle.play_law.specs.Runs.{IsLaidOut}
 use Rattle.report_law.specs.Runs.{IsLawfulOnAnyDisk}
-use Rattle.run_rows.proofs.Drive.{entry, is_of_size, is_partition, is_table, layout}
+use Rattle.run_rows.proofs.Drive.{are_used, entry, is_of_size, is_partition, is_table, layout}
 use Rattle.run_rows.proofs.Crash.{crash, changes, loses, written_is_missed}
 use Rattle.run_rows.proofs.Script.{within_limits}
 use Rattle.run_rows.specs.Drive.{image}
 use Rattle.run_rows.specs.Headline.{RunHasHeadline, WasGathered, copy_in, dry_scene}
-use Rattle.run_rows.specs.Run.{log, partition, plans, printed, report, scene, script_text, session_on, unsynced, written}
+use Rattle.run_rows.specs.Run.{disk_in, log, partition, plans, printed, report, scene, script_text, session_on, unsynced, written}
 use Rattle.script_played.specs.Played.{PlaysPlans}
 
 never : false ≡ true → ⊥
@@ -72,7 +72,7 @@ answered : IsLawfulOnAnyDisk report
 answered = record { numbers = refl; sessions = (session_is_lawful, tt); closing = refl; frames = refl; home = refl }
 
 laid_out : IsLaidOut report
-laid_out = record { layout = layout; blocks = refl; ranges = (is_partition, tt) }
+laid_out = record { layout = layout; blocks = refl; used = are_used; ranges = (is_partition, tt) }
 
 -- ---- where the disk tells
 
@@ -90,6 +90,12 @@ lawful = record {
   };
 }
 
+keeps : KeepsWhatWasFlushed (disk_in written) report
+keeps = record {
+  kept = λ told left of. flushed_at_the_end image report left lawful (crash left of);
+  moments = λ told. flushed_writes_survive image report lawful;
+}
+
 -- ---- the headline
 
 headline : WasGathered → Headline (scene true script_text written) report
@@ -99,7 +105,7 @@ headline gathered = record {
   laid_out = laid_out;
   lawful = λ told. lawful;
   outlives = λ told. crash;
-  keeps = record { kept = λ told left of. flushed_writes_survive image report left lawful (crash left of) };
+  keeps = keeps;
 }
 
 untold : WasGathered → (state : DiskState) → Headline (scene false script_text state) report
@@ -109,7 +115,7 @@ untold gathered state = record {
   laid_out = laid_out;
   lawful = λ told. absurd (never told);
   outlives = λ told. absurd (never told);
-  keeps = record { kept = λ told. absurd (never told) };
+  keeps = record { kept = λ told. absurd (never told); moments = λ told. absurd (never told) };
 }
 
 -- where a copy was played on, that opened so and was left so
@@ -120,7 +126,10 @@ on_copy gathered copy opened left = record {
   laid_out = laid_out;
   lawful = λ told. subst (λ (blocks : List (List ℕ)). IsLawful blocks report) (sym opened) lawful;
   outlives = λ told after of. subst (λ (blocks : List (List ℕ)). IsCrashImage blocks changes after) (sym opened) (crash_of_copy after of);
-  keeps = record { kept = λ told after of. subst (λ (blocks : List (List ℕ)). KeepsFlushed blocks report after) (sym opened) (flushed_writes_survive image report after lawful (crash_of_copy after of)) };
+  keeps = record {
+    kept = λ told after of. subst (λ (blocks : List (List ℕ)). KeepsFlushed blocks report report.steps.items after) (sym opened) (flushed_at_the_end image report after lawful (crash_of_copy after of));
+    moments = λ told. subst (λ (blocks : List (List ℕ)). KeepsAtEachMoment blocks report) (sym opened) (flushed_writes_survive image report lawful);
+  };
 }
   where
     crash_of_copy : (after : List (List ℕ)) → IsCrashOf (state_of copy) after → IsCrashImage image changes after
@@ -136,6 +145,8 @@ disks : (tells : Bool) (state : DiskState) → LeavesPlayed (site_of (scene tell
 disks tells state = record {
   size_is = refl;
   few = lit≤ tt;
+  own_blocks = refl;
+  attached = record { attached = refl; writable = refl; of_size = refl };
   cut_is = (λ cut. cc cut, λ cut. absurd (never cut));
   copy_is = (λ copy. copy, λ copy. copy);
   opened = λ told. tt;
@@ -172,7 +183,7 @@ run_has_headline = record {
   laid_out = laid_out;
   lawful = λ told. lawful;
   outlives = λ told. crash;
-  keeps = record { kept = λ told left of. flushed_writes_survive image report left lawful (crash left of) };
+  keeps = keeps;
   headline = headline;
   leaves = λ gathered. leaves true written (headline gathered);
   untold = λ gathered state. leaves false state (untold gathered state);

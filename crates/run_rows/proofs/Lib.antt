@@ -4,6 +4,7 @@ pub mod Drive
 pub mod Endings
 pub mod Headline
 pub mod Lines
+pub mod LostSteps
 pub mod NoTable
 pub mod Reports
 pub mod Script

@@ -11,7 +11,7 @@ use Rattle.run_rows.proofs.Drive.{is_partition, is_table, layout}
 use Rattle.run_rows.proofs.Headline.{prints}
 use Rattle.run_rows.proofs.Script.{within_limits}
 use Rattle.run_rows.specs.Run.{partition, plans, report}
-use Rattle.run_rows.specs.WrongEnds.{WrongEndsAreRefused, cut_short, here, to_be_cut, to_be_dry}
+use Rattle.run_rows.specs.WrongEnds.{WrongEndsAreRefused, cut_short, here, to_be_cut, to_be_dry, untold_with}
 
 not_risen : ¬ (1 ≤ 0)
 not_risen rose = absurd (omega (arith, rose))
@@ -53,5 +53,11 @@ not_cut h = cc (h.disks.cut_is.1 refl)
 no_copy : ¬ RunLeaves to_be_dry Done (Some report)
 no_copy h = never (h.disks.copy_is.1 refl)
 
+other_blocks : ¬ RunLeaves (untold_with true 6) Done (Some report)
+other_blocks h = absurd (let own : 5 ≡ 6 = h.disks.own_blocks in omega (arith, own))
+
+not_writable : ¬ RunLeaves (untold_with false 5) Done (Some report)
+not_writable h = never h.disks.attached.writable
+
 pub wrong_ends_are_refused : WrongEndsAreRefused
-wrong_ends_are_refused = record { not_refused = not_refused; closing_fault = closing_fault; not_whole = not_whole; not_cut = not_cut; no_copy = no_copy }
+wrong_ends_are_refused = record { not_refused = not_refused; closing_fault = closing_fault; not_whole = not_whole; not_cut = not_cut; no_copy = no_copy; other_blocks = other_blocks; not_writable = not_writable }

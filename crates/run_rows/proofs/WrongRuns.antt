@@ -2,9 +2,10 @@
 use Rattle.std.proofs.Common.{◌≡◌, ◌≢◌, ◌∙◌, inl, ℕ, zero, suc, ◌<◌, Bool, true, false, List, [], ◌∷◌, Option, Some, None, Result, Ok, Err, refl, sym, ap, subst, arith, lit<, lit≤, replicate}
 use Rattle.std.specs.Prelude.{Contains}
 use Rattle.std.specs.List.{slice_get}
-use Rattle.crash_law.specs.Survival.{HasSurvived, IsDone}
+use Rattle.crash_law.specs.Survival.{WasFlushed, WerePutSince, WroteBlock}
 use Rattle.host_block.specs.Changes.{changes_block, put_by}
 use Rattle.host_block.specs.Disk.{fresh}
+use Rattle.host_block.specs.declared.op.Op.TheVariants as op
 use Rattle.host_gpt.proofs.LawLemmas.{one_table}
 use Rattle.host_gpt.specs.declared.entry.Entry.{Entry}
 use Rattle.host_gpt.specs.declared.which.Which.TheVariants.{Primary}
@@ -16,9 +17,9 @@ use Rattle.host_model.specs.Order.{HadBefore}
 use Rattle.host_model.specs.Session.{Session}
 use Rattle.host_model.specs.Verdict.{judged}
 use Rattle.host_model.specs.declared.step.Step.{Step}
-use Rattle.host_part.proofs.RangeLemmas.{range_lies_inside, ranges_share_no_block}
+use Rattle.host_block.specs.declared.range.Range.{Range}
+use Rattle.host_part.proofs.RangeLemmas.{one_range, range_lies_inside, ranges_share_no_block}
 use Rattle.host_record.specs.Command.{opcode}
-use Rattle.host_record.specs.declared.opcode.Opcode.TheVariants.{Flush, Write}
 use Rattle.host_report.specs.Lawful.{session_of}
 use Rattle.host_run.specs.Ending.{IsPlayed}
 use Rattle.host_run.specs.Headline.{IsLawfulOn, KeepsWhatWasFlushed, OutlivesCrash}
@@ -28,8 +29,8 @@ use Rattle.run_rows.proofs.Crash.{first_byte, loses, one_version, written_is_mis
 use Rattle.run_rows.proofs.Drive.{entry, is_table, only_entry}
 use Rattle.run_rows.proofs.Script.{another_means, another_plans}
 use Rattle.run_rows.specs.Drive.{cells, image, image_of}
-use Rattle.run_rows.specs.Run.{disk_in, log, partition, report, scene, session_on, unsynced, written}
-use Rattle.run_rows.specs.WrongRuns.{WrongRunsAreRefused, another_text, no_answer, on_range, shared_block, stale_read, stale_session, step_outside, two_answers, with_log}
+use Rattle.run_rows.specs.Run.{disk_in, log, partition, report, scene, session_on, step, unsynced, written}
+use Rattle.run_rows.specs.WrongRuns.{WrongRunsAreRefused, another_text, no_answer, on_range, shared_block, stale_read, stale_session, step_outside, two_answers, two_ranges, with_log}
 use Rattle.script_model.specs.Plans.{SessionPlan}
 use Rattle.script_model.specs.declared.parse_error.ParseError.{ParseError}
 use Rattle.script_played.specs.Played.{PlaysPlans}
@@ -80,6 +81,13 @@ past_the_image h =
     let below : 5 < h.layout.blocks = inside.2 in
     let blocks : h.layout.blocks ≡ 5 = h.blocks in
     absurd (omega (arith, below, blocks))
+
+one_partition : ¬ IsLaidOut two_ranges
+one_partition h =
+    let second = h.ranges.1 in
+    let same = one_range h.layout 1 partition (record { first = 4; count = 1 }) h.used h.ranges.0 second.0 in
+    let first : 3 ≡ 4 = ap (λ (r : Range). r.first) same in
+    absurd (omega (arith, first))
 
 -- ---- lawful
 
@@ -135,37 +143,34 @@ beside h =
 abbrev session : Session
 session = session_of report (session_on 1 partition log)
 
-write_done : IsDone session 0 Write
-unfolding opcode
-write_done = record { taken = lit< tt; asks = refl; ended = refl }
+wrote : WroteBlock report.steps.items 1 0 3 0
+wrote = record { step = step 0 op.Write 3 (cells 7); stands = refl; names = (refl, refl); writes = refl }
 
-flush_done : IsDone session 1 Flush
-unfolding opcode
-flush_done = record { taken = lit< tt; asks = refl; ended = refl }
+flushed : WasFlushed report.steps.items 1 1
+flushed = record { place = 1; step = step 1 op.Flush 0 []; stands = refl; names = (refl, refl); flushes = refl }
 
 had : HadBefore session (sending log 1) 0
 had = (4, lit≤ tt, refl)
 
 abbrev byte_of : Option Step → ℕ
-byte_of (Some step) = first_byte (put_by 512 step.op step.bytes)
+byte_of (Some x) = first_byte (put_by 512 x.op x.bytes)
 byte_of None = 0
 
 abbrev changes_three : Option Step → Bool
-changes_three (Some step) = changes_block (change_of step) 3
+changes_three (Some x) = changes_block (change_of x) 3
 changes_three None = false
 
 -- a step that put bytes into block 3 put the written ones there
-put_there : (p : ℕ) (step : Step) → slice_get report.steps.items p ≡ Some step → changes_block (change_of step) 3 ≡ true → first_byte (put_by 512 step.op step.bytes) ≡ 7
-put_there zero step stands writes = sym (ap byte_of stands)
-put_there (suc zero) step stands writes = absurd (never (ap changes_three stands ∙ writes))
-put_there (suc (suc zero)) step stands writes = absurd (never (ap changes_three stands ∙ writes))
-put_there (suc (suc (suc zero))) step stands writes = absurd (never (ap changes_three stands ∙ writes))
-put_there (suc (suc (suc (suc p)))) step stands writes = absurd (never (ap changes_three stands ∙ writes))
+put_there : (p : ℕ) (x : Step) → slice_get report.steps.items p ≡ Some x → changes_block (change_of x) 3 ≡ true → first_byte (put_by 512 x.op x.bytes) ≡ 7
+put_there zero x stands writes = sym (ap byte_of stands)
+put_there (suc zero) x stands writes = absurd (never (ap changes_three stands ∙ writes))
+put_there (suc (suc zero)) x stands writes = absurd (never (ap changes_three stands ∙ writes))
+put_there (suc (suc (suc zero))) x stands writes = absurd (never (ap changes_three stands ∙ writes))
+put_there (suc (suc (suc (suc p)))) x stands writes = absurd (never (ap changes_three stands ∙ writes))
 
 lost : ¬ KeepsWhatWasFlushed (disk_in unsynced) report
 lost h =
-    let block : HasSurvived image report.steps.items 1 0 3 image = h.kept refl image loses 0 (session_on 1 partition log) refl 0 1 Write refl write_done flush_done had 0 (lit< tt) in
-    let since = block.left in
+    let since : WerePutSince report.steps.items 512 3 0 (cells 0) = h.kept refl image loses 0 (session_on 1 partition log) refl 0 1 had flushed 3 0 wrote in
     let q : 0 ≡ 7 = ap first_byte since.are ∙ put_there since.later since.step since.stands since.writes in
     absurd (omega (arith, q))
 
@@ -179,6 +184,7 @@ wrong_runs_are_refused = record {
   outside = outside;
   shares = shares;
   past_the_image = past_the_image;
+  one_partition = one_partition;
   other_bytes = other_bytes;
   stale = stale;
   off_the_table = off_the_table;

@@ -1,5 +1,5 @@
 -- How sessions end, and which slip answers a record.
-use Rattle.std.specs.Prelude.{◌≡◌, ℕ, true, false, Some, None}
+use Rattle.std.specs.Prelude.{◌≡◌, ℕ, true, false, [], ◌∷◌, Some, None}
 use Rattle.host_group.specs.declared.group_end.GroupEnd.{GroupEnd}
 use Rattle.host_intake.specs.declared.entry.RecordEnd.{RecordEnd}
 use Rattle.host_intake.specs.Answers.{group_slip, lone_slip}
@@ -8,8 +8,7 @@ use Rattle.host_model.specs.Groups.{is_owing}
 use Rattle.host_record.specs.declared.finish.Finish.TheVariants.{Abort, Drain}
 use Rattle.host_record.specs.declared.request.Request.{Request}
 use Rattle.host_record.specs.declared.status.Status.TheVariants.{Io, Ok}
-use Rattle.host_session.specs.Client.{is_aborted, is_drained}
-use Rattle.host_worker.specs.Finishes.{finish_by}
+use Rattle.host_session.specs.Client.{ends_logged, is_aborted, is_drained}
 
 -- a write of one block, of group 3: a member, the last one, or, without the two bits, a lone record
 abbrev pub write_by : ℕ → Request
@@ -24,8 +23,8 @@ abbrev pub group_end : GroupEnd
 group_end = record { status = Io; count = 2; reqid = 10; index = 1; device_front = 6; memory_front = 7 }
 
 pub record EndingsAreAsWritten : Type 0 where
-  -- a session is told to have drained or aborted by its last event
-  pub finish : (finish_by (Some Drained) ≡ Drain) × (finish_by (Some Aborted) ≡ Abort)
+  -- a session that drained or aborted is closed with the event that says so
+  pub finish : (ends_logged (Some Drain) true ≡ Drained ∷ []) × (ends_logged (Some Abort) true ≡ Aborted ∷ [])
   pub not_drained : (is_drained (Some Abort) ≡ false) × (is_drained None ≡ false)
   pub not_aborted : (is_aborted (Some Drain) ≡ false) × (is_aborted None ≡ false)
   -- an answer is owed for a lone record, and for the last of a group alone

@@ -54,6 +54,10 @@ on_range range = report_with (session_on 1 range log ∷ []) steps
 abbrev pub shared_block : Report
 shared_block = report_with (session_on 1 partition log ∷ session_on 2 (record { first = 4; count = 1 }) log ∷ []) steps
 
+-- two sessions on one partition, of which the second has its last block alone
+abbrev pub two_ranges : Report
+two_ranges = report_with (session_on 1 partition log ∷ record (session_on 2 (record { first = 4; count = 1 }) log) { part = 1 } ∷ []) steps
+
 -- ---- the rows
 
 pub record WrongRunsAreRefused : Type 0 where
@@ -63,6 +67,8 @@ pub record WrongRunsAreRefused : Type 0 where
   pub outside : ¬ IsLawfulOnAnyDisk step_outside
   pub shares : ¬ IsLaidOut shared_block
   pub past_the_image : ¬ IsLaidOut (on_range (record { first = 3; count = 3 }))
+  -- a partition is one range
+  pub one_partition : ¬ IsLaidOut two_ranges
   -- whatever the image, nothing is wrong with a read of other bytes; on this image it is
   pub other_bytes : IsLawfulOnAnyDisk stale_read
   pub stale : ¬ IsLawfulOn (disk_in written) stale_read

@@ -6,6 +6,6 @@ mod rows;
 
 pub use rows::{
     a_bad_script_is_told, a_missing_table_is_told, a_run_has_its_headline, endings_are_as_written,
-    refusals_have_lines, statuses_come_with_reports, tables_have_their_text, words_ask_for_runs,
-    wrong_ends_are_refused, wrong_runs_are_refused,
+    lost_steps_are_refused, refusals_have_lines, statuses_come_with_reports,
+    tables_have_their_text, words_ask_for_runs, wrong_ends_are_refused, wrong_runs_are_refused,
 };

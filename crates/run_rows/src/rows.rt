@@ -3,6 +3,7 @@ ghost use Rattle.run_rows.specs.BadScript.{BadScriptIsTold};
 ghost use Rattle.run_rows.specs.Endings.{EndingsAreAsWritten};
 ghost use Rattle.run_rows.specs.Headline.{RunHasHeadline};
 ghost use Rattle.run_rows.specs.Lines.{RefusalsHaveLines};
+ghost use Rattle.run_rows.specs.LostSteps.{LostStepsAreRefused};
 ghost use Rattle.run_rows.specs.NoTable.{NoTableIsTold};
 ghost use Rattle.run_rows.specs.Reports.{StatusesComeWithReports};
 ghost use Rattle.run_rows.specs.TableTexts.{TablesHaveTheirText};
@@ -33,6 +34,11 @@ pub fn a_run_has_its_headline()
 /// Runs that differ from it in one thing haven't, each by one field.
 pub fn wrong_runs_are_refused()
     ensures { WrongRunsAreRefused }
+{}
+
+/// Runs in which each write that ended well is kept in the end lose a step of a write that failed, or lose one in the middle.
+pub fn lost_steps_are_refused()
+    ensures { LostStepsAreRefused }
 {}
 
 /// What the run can't leave: another end, a part of its text, a closing flush that wasn't asked for.

@@ -1,1 +1,4 @@
+pub mod Bounds
+pub mod Counting
+pub mod Fitting
 pub mod Owing

@@ -23,11 +23,11 @@ use Rattle.script_played.specs.Played.{ask_of}
 
 -- ---- the records that were asked for
 
-abbrev asked_bytes : Ask → Option (List ℕ)
+abbrev pub asked_bytes : Ask → Option (List ℕ)
 asked_bytes (send bytes) = Some bytes
 asked_bytes _ = None
 
-call_sends : (a : Ask) (e : Event) → is_call_for a e ≡ true → sent_bytes e ≡ asked_bytes a
+pub call_sends : (a : Ask) (e : Event) → is_call_for a e ≡ true → sent_bytes e ≡ asked_bytes a
 call_sends (send bytes) (Sent index sent) h = ap Some (sym ((bytes_eq-Decides bytes sent).0 h))
 call_sends (attach pages) (Attached given id) h = refl
 call_sends (attach pages) (NotAttached given cause) h = refl

@@ -1,6 +1,8 @@
-//! Whether the run that a report tells of played a script, and what follows from it.
+//! Whether the run that a report tells of played a script, what follows from it, and how long its histories get at most.
 #![tactic(auto)]
 
 mod laws;
+mod room;
 
-pub use laws::owed_as_written;
+pub use laws::{histories_fit, owed_as_written};
+pub use room::{moves_in, steps_ahead};

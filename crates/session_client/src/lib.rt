@@ -26,7 +26,7 @@ pub use desk::Desk;
 pub use handing::hand_on;
 pub use judge::Judge;
 pub use landing::land;
-pub use opening::{PART, Sizes, close_desk, open_desk};
+pub use opening::{Left, PART, Sizes, close_desk, open_desk};
 pub use pair::run_pair;
 pub use plain::{PlainList, end_under};
 pub use playing::play;

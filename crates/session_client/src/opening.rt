@@ -8,7 +8,7 @@ use host_block::{BlockSize, Oom, Range};
 use host_frames::Pool;
 use host_model::{Events, MemEntries, TakenRows};
 use host_session::{
-    ClientEnd, SessionHand, SessionShared, SessionSpec, close_session, open_session,
+    ClientEnd, SessionHand, SessionLogs, SessionShared, SessionSpec, close_session, open_session,
 };
 use std::alloc::Global;
 
@@ -48,6 +48,7 @@ pub fn open_desk(alloc: Global, sizes: Sizes) -> Result<Desk, Oom>
         attaches: 65_535,
         events: sizes.events,
         memory_room: 0,
+        keeps: true,
     };
     let (shared, client, mut hands) = open_session(alloc, spec, 1, &pool)?;
     let hand = hands.pop().unwrap();
@@ -66,8 +67,11 @@ pub fn open_desk(alloc: Global, sizes: Sizes) -> Result<Desk, Oom>
     })
 }
 
+/// What a session leaves that keeps its histories: its log, the rows of its records and the history of its buffers.
+pub type Left = (Events, TakenRows, MemEntries);
+
 /// Ends a session that is closed.
-pub fn close_desk(alloc: Global, desk: Desk) -> Result<(Events, TakenRows, MemEntries), Oom>
+pub fn close_desk(alloc: Global, desk: Desk) -> Result<Option<Left>, Oom>
     requires { desk.caller.client.closed ≡ true }
 {
     let Desk {
@@ -86,7 +90,7 @@ pub(crate) fn close_parts(
     shared: SessionShared,
     client: ClientEnd,
     hand: SessionHand,
-) -> Result<(Events, TakenRows, MemEntries), Oom>
+) -> Result<Option<Left>, Oom>
     requires shared { IsShared client.plan shared }
     requires hand { IsHand client.plan 0 hand × (client.plan.hands ≡ 1) }
     requires closed { client.closed ≡ true }
@@ -95,5 +99,10 @@ pub(crate) fn close_parts(
         return Err(Oom);
     };
     hands.push_reserved(hand);
-    Ok(close_session(shared, client, hands))
+    Ok(kept(close_session(shared, client, hands)))
+}
+
+fn kept(logs: SessionLogs) -> Option<Left> {
+    let SessionLogs { log, rows, memory } = logs;
+    Some((log.into_list()?, rows.into_list()?, memory.into_list()?))
 }

@@ -8,13 +8,12 @@ use crate::caller::Caller;
 use crate::deed::Deed;
 use crate::desk::Desk;
 use crate::judge::Judge;
-use crate::opening::{PART, Sizes, close_parts, open_desk};
+use crate::opening::{Left, PART, Sizes, close_parts, open_desk};
 use crate::plain::PlainList;
 use crate::playing::play;
 use crate::round::{Visit, go_round};
 use host_block::Oom;
 use host_frames::{Pool, PoolSeat};
-use host_model::{Events, MemEntries, TakenRows};
 use host_record::Finish;
 use host_session::{SessionHand, SessionShared};
 use std::alloc::Global;
@@ -29,7 +28,7 @@ pub fn run_pair<R: Threads + Wait + Sync>(
     sizes: Sizes,
     deeds: &[Deed],
     how: Finish,
-) -> Result<(Events, TakenRows, MemEntries), Oom>
+) -> Result<Option<Left>, Oom>
     requires frames { 1 ≤ sizes.frames }
     requires depth { (1 ≤ sizes.depth) × (sizes.depth ≤ 128) }
 {

@@ -28,7 +28,7 @@ pub fn open_device<D: Disk + Drop>(
     let Ok(cache) = Cache::new(alloc, disk, blocks, size) else {
         return None;
     };
-    match Device::new(alloc, cache, room) {
+    match Device::new(alloc, cache, room, true) {
         Ok(device) => Some((device, blocks)),
         Err(_) => None,
     }

@@ -10,7 +10,7 @@ use std::sync::Wait;
 use std::thread;
 use std::thread::Threads;
 
-const COUNT: u32 = 10_000;
+const COUNT: u32 = 100_000;
 
 fn envelope(index: u32) -> Envelope
     ensures { result.index ≡ index }

@@ -25,7 +25,7 @@ fn a_held_record_is_dropped(rt: HostRuntime) -> Result<(), Fail> {
     let closed = desk.close(&rt);
     assert!(rt; closed);
     if closed {
-        let (log, rows, _history) = close_desk(rt.alloc(), desk)?;
+        let (log, rows, _history) = close_desk(rt.alloc(), desk)?.ok_or("logs")?;
         assert!(rt;
             matches!(
                 log.as_slice(),

@@ -38,7 +38,7 @@ fn ids_are_used_up(rt: HostRuntime) -> Result<(), Fail> {
     let closed = desk.close(&rt);
     assert!(rt; closed);
     if closed {
-        let (log, rows, history) = close_desk(rt.alloc(), desk)?;
+        let (log, rows, history) = close_desk(rt.alloc(), desk)?.ok_or("logs")?;
         assert_eq!(rt; log.len(), 3 * 65_535 + 2);
         assert_eq!(rt; rows.len(), 65_535);
         assert_eq!(rt; history.len(), 3 * 65_535);

@@ -16,7 +16,7 @@ fn after_a_drain_all_is_closed(rt: HostRuntime) -> Result<(), Fail> {
     let closed = desk.close(&rt);
     assert!(rt; closed);
     if closed {
-        let (log, rows, history) = close_desk(rt.alloc(), desk)?;
+        let (log, rows, history) = close_desk(rt.alloc(), desk)?.ok_or("logs")?;
         assert!(rt; matches!(log.as_slice(), [Event::Drained]));
         assert!(rt; rows.is_empty() && history.is_empty());
     }

@@ -17,7 +17,7 @@ returns-in-Ok-clause-bytes g c =
 pub returns-in-Ok-clause-entry : goal.returns-in-Ok-clause-entry
 returns-in-Ok-clause-entry g c =
     c.enter-answer.ensures.entry
-    ∙ ap (λ (l : List Step). record { items = c.args.steps.now.items ++ l; room = c.args.steps.now.room })
+    ∙ ap (λ (l : List Step). record { items = c.args.steps.now.items ++ l; room = c.args.steps.now.room; kept = c.args.steps.now.kept })
     (entered c.args.owner Read c.args.b c.read.new.into c.in-Ok.found.stored (answer_alone c.with_bytes.result) c.in-Ok.ensures.bytes (c.with_bytes.ensures.answer ∙ c.enter-answer.ensures.answer))
 
 pub returns-in-Ok-clause-calls : goal.returns-in-Ok-clause-calls

@@ -11,7 +11,7 @@ use Rattle.host_device.proofs.steps.make_step.Goals as goal
 pub returns-in-Ok-clause-entry : goal.returns-in-Ok-clause-entry
 returns-in-Ok-clause-entry g c =
     c.enter.ensures.entry
-    ∙ ap (λ (l : List Step). record { items = c.args.steps.now.items ++ l; room = c.args.steps.now.room })
+    ∙ ap (λ (l : List Step). record { items = c.args.steps.now.items ++ l; room = c.args.steps.now.room; kept = c.args.steps.now.kept })
     (entered c.args.owner c.args.op c.args.b c.args.bytes c.in-Ok.stored c.enter.result c.in-Ok.ensures.bytes c.enter.ensures.answer)
 
 pub returns-in-Ok-clause-calls : goal.returns-in-Ok-clause-calls

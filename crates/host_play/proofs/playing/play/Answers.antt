@@ -1,4 +1,4 @@
-use Rattle.std.proofs.Common.{◌≡◌, ◌+◌, ℕ, length, map, sym, subst, arith}
+use Rattle.std.proofs.Common.{◌≡◌, ◌+◌, ℕ, length, map, sym, ap, subst, ◌∙◌, arith}
 use Rattle.host_report.specs.declared.session.SessionReport.{SessionReport}
 use Rattle.host_worker.specs.Shares.{specs_of}
 use Rattle.script_model.specs.Plans.{plans_of}
@@ -27,14 +27,19 @@ perform-finished-requires-clause-clients_room g c κs within =
     let n = sessions_set c.args.ground.disk (plans_of c.args.script.now) c.args.ranges.now c.args.ground.size c.args.setting c.in_ok-stage.stage c.requires.ranges set in
     (set.clients_room.0, omega (arith, set.clients_room.1, n))
 
+pub gather_kept-report-requires-clause-kept : goal.gather_kept-report-requires-clause-kept
+gather_kept-report-requires-clause-kept g c =
+    let set = c.in_ok-stage.ensures in
+    (c.perform-finished.ensures.keeps ∙ set.keeps, ap (λ f. f.keeps) (c.close_device-closing.ensures.fixed ∙ c.perform-finished.ensures.device) ∙ set.keeps)
+
 -- what is told of the report
-all_told : (g : _) (c : goal.After-gather-report g) → let report = c.gather-report.result.0 in IsReportOf (plans_of c.args.script.now) c.args.ranges.now c.args.setting.workers c.args.setting.depth report × PlaysPlans (plans_of c.args.script.now) report × (map (λ (s : SessionReport). s.range) report.sessions.items ≡ c.args.ranges.now)
+all_told : (g : _) (c : goal.After-gather_kept-report g) → let report = c.gather_kept-report.result.0 in IsReportOf (plans_of c.args.script.now) c.args.ranges.now c.args.setting.workers c.args.setting.depth report × PlaysPlans (plans_of c.args.script.now) report × (map (λ (s : SessionReport). s.range) report.sessions.items ≡ c.args.ranges.now)
 all_told g c =
     let plans = plans_of c.args.script.now in
     let server = c.in_ok-stage.stage.server in
     let set = c.in_ok-stage.ensures in
-    let specs = subst (λ (n : ℕ). specs_of server.sessions.items ≡ specs_from 1 plans c.args.ranges.now n c.args.setting.depth) (sym c.gather-report.ensures.given.1) set.specs_are in
-    told server set.server plans c.args.ranges.now c.args.setting.workers c.args.setting.depth c.gather-report.result.0 c.perform-finished.result.ends c.perform-finished.ensures.ended c.gather-report.ensures.gathered specs set.hand_count c.requires.ranges
+    let specs = subst (λ (n : ℕ). specs_of server.sessions.items ≡ specs_from 1 plans c.args.ranges.now n c.args.setting.depth) (sym c.gather_kept-report.ensures.given.1) set.specs_are in
+    told server set.server plans c.args.ranges.now c.args.setting.workers c.args.setting.depth c.gather_kept-report.result.0 c.perform-finished.result.ends c.perform-finished.ensures.ended c.gather_kept-report.ensures.gathered specs set.hand_count c.requires.ranges
 
 pub returns-clause-played : goal.returns-clause-played
 returns-clause-played g c = (all_told g c).1

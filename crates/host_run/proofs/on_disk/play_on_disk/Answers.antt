@@ -1,8 +1,9 @@
-use Rattle.std.proofs.Common.{◌∙◌, true, ap}
+use Rattle.std.proofs.Common.{◌∙◌, true, ap, subst, sym}
 use Rattle.std.specs.Prelude.{IsTrue}
 use Rattle.host_block.specs.Disk.{DiskState}
 use Rattle.host_device.specs.Faults.{faulted_count}
-use Rattle.host_start.specs.Images.{IsPlaced}
+use Rattle.host_io.specs.Disks.{Shape}
+use Rattle.host_start.specs.Images.{IsOpened, IsPlaced}
 use Rattle.play_law.specs.Runs.{IsSound}
 use Rattle.host_run.proofs.Faults.{rose_before}
 use Rattle.host_run.proofs.on_disk.play_on_disk.Goals as goal
@@ -15,7 +16,7 @@ returns-in-Ok-play_start-clause-ran g c =
     let ran = c.in-Ok-play_start.ensures in
     let image = g.D.Disk.image_named c.args.disk c.args.image.now c.args.size in
     let sound : IsTrue (g.D.Disk.shape c.args.disk).tells → IsSound image run.report (g.D.Disk.state run.disk) = λ told.
-    let placed : IsPlaced true image start = record { layout = ready.placed.layout; blocks = ready.placed.blocks; places = ready.placed.places; on_image = λ is. ready.placed.on_image told } in
+    let placed : IsPlaced true image start = record { layout = ready.placed.layout; blocks = ready.placed.blocks; used = ready.placed.used; places = ready.placed.places; on_image = λ is. ready.placed.on_image told } in
     ran.sound image placed (ap (λ (s : DiskState). s.durable) (ready.state told)) (ready.shape.told ∙ told) in
     let before = (g.D.Disk.counts c.args.disk).faults in
     let after = (g.D.Disk.counts run.disk).faults in
@@ -24,10 +25,12 @@ returns-in-Ok-play_start-clause-ran g c =
       laid_out = ran.laid_out (g.D.Disk.shape c.args.disk).tells image ready.placed;
       lawful = λ told. (sound told).lawful;
       outlives = λ told. (sound told).crashes;
-      keeps = record { kept = λ told. (sound told).flushed };
+      keeps = record { kept = λ told. (sound told).flushed; moments = λ told. (sound told).moments };
       left = record {
         size_is = ran.size ∙ ready.size;
         few = ran.few;
+        own_blocks = ran.blocks ∙ (sym ready.shape.count ∙ sym (ap (λ (s : Shape). s.blocks) ran.shape));
+        attached = subst (λ (s : Shape). IsOpened c.args.size true s) (sym ran.shape) (ready.opened tt);
         cut_is = ran.cut;
         copy_is = (λ h. absurd (cc h), λ h. absurd (cc h));
         opened = λ told. tt;

@@ -68,3 +68,12 @@ returns-clause-few g c =
     (λ run. run.report.blocks ≤ 262144)
     (λ run shown. let same = shown.0 in let few = start.few_blocks in omega (arith, same, few))
     c.play.ensures.image
+
+pub returns-clause-blocks : goal.returns-clause-blocks
+returns-clause-blocks g c =
+    let start = c.args.start.now in
+    on_one c.play.result
+    (λ run. (run.report.blocks ≡ start.blocks) × (run.report.size ≡ start.size) × (run.report.which ≡ start.which))
+    (λ run. run.report.blocks ≡ start.blocks)
+    (λ run shown. shown.0)
+    c.play.ensures.image

@@ -35,6 +35,7 @@ returns-in-List-clause-line g c =
     let l : Listing = record {
       asked = record { name = c.in-List.image.now; size = c.in-List.block };
       disk = disk_seen g.D.Disk c.args.disk;
+      new_disk = disk_seen g.D.Disk c.list.result.disk;
       sink = sink_seen g.K.Sink c.args.out.now;
       new_sink = sink_seen g.K.Sink c.list.new.out;
     } in

@@ -90,8 +90,21 @@ into_entries-requires c =
     all_last (λ (q : MemorySeat). Continues (λ (e : MemEntry). e.hand) (number q) (seen_by q) m.entries) c.gather-intake_seats.result.memory_seats.items c.push_reserved-2.new.self.items c.client.inside.memory_seat c.push_reserved-2.ensures.items fewer in
     home s k closed m.entries numbers later_h
 
-pub returns : goal.returns
-returns c =
+pub returns-clause-kept : goal.returns-clause-kept
+returns-clause-kept c =
+    let s : ClientState = client_state c.client.inside in
+    let part : IsShared s.plan c.args.shared = subst (λ (x : ClientState). IsShared x.plan c.args.shared) (sym c.client.view_is) c.requires.shared in
+    let plan : plan_of c.close-state.result ≡ intake_plan s.plan = c.close-state.ensures.fixed_part ∙ part.plans.0 in
+    let of : c.close-buffers.result.plan ≡ memory_plan s.plan = c.close-buffers.ensures.fixed_part ∙ part.plans.1 in
+    let keeps : s.plan.spec.keeps ≡ c.args.client.plan.spec.keeps = ap (λ (x : ClientState). x.plan.spec.keeps) c.client.view_is in
+    record {
+      log = c.client.invariant.counted.keeps ∙ keeps;
+      rows = c.into_parts-rows.ensures.kept ∙ (ap (λ (x : IntakePlan). x.keeps) plan ∙ keeps);
+      memory = c.into_entries.ensures.kept ∙ (ap (λ (x : MemoryPlan). x.limits.keeps) of ∙ keeps);
+    }
+
+pub returns-clause-whole : goal.returns-clause-whole
+returns-clause-whole c =
     let s : ClientState = client_state c.client.inside in
     let k : IsClient s = c.client.invariant.client in
     let part : IsShared s.plan c.args.shared = subst (λ (x : ClientState). IsShared x.plan c.args.shared) (sym c.client.view_is) c.requires.shared in

@@ -9,7 +9,7 @@ use Rattle.host_session.specs.Plan.{id_limit}
 use Rattle.host_session.proofs.open.open_memory.Goals as goal
 
 abbrev planned : SessionSpec → ℕ → TableId × ℕ → ℕ → ℕ → MemoryPlan
-planned spec hands pool ids room = record { limits = record { size = spec.size; ids = ids; room = room; records = spec.records; moves = spec.memory_room; hands = hands }; pool = pool }
+planned spec hands pool ids room = record { limits = record { size = spec.size; ids = ids; room = room; records = spec.records; moves = spec.memory_room; hands = hands; keeps = spec.keeps }; pool = pool }
 
 pub returns-in-Ok : goal.returns-in-Ok
 returns-in-Ok c =

@@ -46,6 +46,7 @@ invariant_of-client c =
     (ap (λ (t : SlipTakerState). t.senders) c.in_ok-senders.ensures.taker)
     c.in_ok-log.ensures.empty
     (omega (arith, c.in_ok-log.ensures.room, c.in-Some.ensures))
+    c.in_ok-log.ensures.kept
     (refl, refl, refl, refl)
     refl
     refl

@@ -3,11 +3,11 @@ use Rattle.host_block.specs.Disk.{DiskState}
 use Rattle.host_gpt.specs.Image.{current_image}
 use Rattle.host_io.specs.Flat.{image_of}
 use Rattle.host_start.specs.Copies.{image_in}
-use Rattle.host_start.specs.Images.{IsPlaced, IsSmallEnough, SaysOfImage, SaysOfTable, parts_of}
+use Rattle.host_start.specs.Images.{IsPlaced, IsSmallEnough, SaysOfBlocks, SaysOfImage, SaysOfTable, parts_of}
 use Rattle.host_start.specs.Refusals.{IsAfterScript}
 use Rattle.host_start.specs.declared.error.StartError.{StartError}
 use Rattle.host_start.proofs.CopyLemmas.{length-image_in}
-use Rattle.host_start.proofs.ImageLemmas.{after_table, no_rise, same_kept, same_size, says_of_image}
+use Rattle.host_start.proofs.ImageLemmas.{after_table, as_many_kept, no_rise, same_kept, same_size, says_few, says_of_image}
 use Rattle.script_model.specs.Plans.{plans_of}
 use Rattle.host_start.proofs.ready.start_on.Goals as goal
 
@@ -37,3 +37,12 @@ returns-in-Err-clause-found c = same_kept c.not_ready.result.copy _ (image_in c.
 
 pub returns-in-Err-clause-found_size : goal.returns-in-Err-clause-found_size
 returns-in-Err-clause-found_size c = same_size c.not_ready.result.copy _ c.args.copy.size c.not_ready.ensures.copy refl
+
+pub returns-in-Err-clause-found_blocks : goal.returns-in-Err-clause-found_blocks
+returns-in-Err-clause-found_blocks c =
+    as_many_kept c.not_ready.result.copy _ c.args.copy.blocks c.not_ready.ensures.copy
+    (ap (λ (o : List ℕ). length (image_of c.args.copy.size o)) c.on.ensures.opening ∙ length-image_in c.args.copy)
+
+pub returns-in-Err-clause-refused_blocks : goal.returns-in-Err-clause-refused_blocks
+returns-in-Err-clause-refused_blocks c =
+    subst (SaysOfBlocks c.args.copy.blocks) (sym c.not_ready.ensures.error) (says_few c.args.copy.blocks c.in-Err.error c.requires.few_blocks c.in-Err.ensures.cause)

@@ -1,7 +1,7 @@
-use Rattle.std.proofs.Common.{[], List, ℕ, ◌≡◌, subst}
+use Rattle.std.proofs.Common.{[], List, ℕ, ◌≡◌, length, subst}
 use Rattle.std.specs.Prelude.{IfErr, IfOk, IfSome}
 use Rattle.host_start.specs.Copies.{image_in}
-use Rattle.host_start.specs.Images.{SaysOfImage, parts_of}
+use Rattle.host_start.specs.Images.{SaysOfBlocks, SaysOfImage, parts_of}
 use Rattle.host_start.specs.declared.copy.ImageCopy.{ImageCopy}
 use Rattle.host_start.specs.declared.ready.NotReady.{NotReady}
 use Rattle.host_start.specs.declared.ready.ReadyCopy.{ReadyCopy}
@@ -13,7 +13,8 @@ pub returns-in-Err-clause-cause : goal.returns-in-Err-clause-cause
 returns-in-Err-clause-cause g c = after_image c.in-Err.error c.in-Err.ensures.cause
 
 pub returns-in-Err-clause-read_alone : goal.returns-in-Err-clause-read_alone
-returns-in-Err-clause-read_alone g c = c.in-Err.ensures.read_alone
+returns-in-Err-clause-read_alone g c = λ started.
+    record { attached = c.in-Err.ensures.is_attached started; writable = c.in-Err.ensures.read_alone started; of_size = c.in-Err.ensures.of_size started }
 
 pub returns-in-Err-clause-refused : goal.returns-in-Err-clause-refused
 returns-in-Err-clause-refused g c = λ told. says_early _ [] _ c.in-Err.error c.in-Err.ensures.cause (c.in-Err.ensures.copied told)
@@ -42,3 +43,21 @@ returns-in-Ok-clause-found g c = λ told.
 pub returns-in-Ok-clause-found_size : goal.returns-in-Ok-clause-found_size
 returns-in-Ok-clause-found_size g c =
     subst (λ (n : ℕ). IfErr c.start_on.result (λ (no : NotReady). IfSome no.copy (λ (k : ImageCopy). k.size ≡ n))) c.in-Ok.ensures.size c.start_on.ensures.found_size
+
+pub returns-in-Ok-clause-read_alone : goal.returns-in-Ok-clause-read_alone
+returns-in-Ok-clause-read_alone g c = λ started.
+    record { attached = c.in-Ok.ensures.is_attached tt; writable = c.in-Ok.ensures.read_alone tt; of_size = c.in-Ok.ensures.of_size tt }
+
+pub returns-in-Ok-clause-disk_blocks : goal.returns-in-Ok-clause-disk_blocks
+returns-in-Ok-clause-disk_blocks g c = subst (λ (n : ℕ). IfOk c.start_on.result (λ (r : ReadyCopy). r.start.blocks ≡ n)) c.in-Ok.ensures.counted c.start_on.ensures.own_blocks
+
+pub returns-in-Ok-clause-found_blocks : goal.returns-in-Ok-clause-found_blocks
+returns-in-Ok-clause-found_blocks g c =
+    subst (λ (n : ℕ). IfErr c.start_on.result (λ (no : NotReady). IfSome no.copy (λ (k : ImageCopy). length (image_in k) ≡ n))) c.in-Ok.ensures.counted c.start_on.ensures.found_blocks
+
+pub returns-in-Ok-clause-refused_blocks : goal.returns-in-Ok-clause-refused_blocks
+returns-in-Ok-clause-refused_blocks g c =
+    subst (λ (n : ℕ). IfErr c.start_on.result (λ (no : NotReady). SaysOfBlocks n no.error)) c.in-Ok.ensures.counted c.start_on.ensures.refused_blocks
+
+pub returns-in-Err-clause-refused_blocks : goal.returns-in-Err-clause-refused_blocks
+returns-in-Err-clause-refused_blocks g c = c.in-Err.ensures.blocks

@@ -1,6 +1,8 @@
-use Rattle.std.proofs.Common.{◌∙◌, []}
-use Rattle.host_start.specs.Images.{parts_of}
-use Rattle.host_start.proofs.ImageLemmas.{after_image, after_tables, attached_by, fresh_by, placed_on, refused_on, says_early}
+use Rattle.std.proofs.Common.{◌≡◌, ◌∙◌, [], ℕ, true, ap, subst, sym}
+use Rattle.std.specs.Prelude.{IfErr}
+use Rattle.host_io.specs.Disks.{Shape}
+use Rattle.host_start.specs.Images.{IsOpened, SaysOfBlocks, parts_of}
+use Rattle.host_start.proofs.ImageLemmas.{after_image, after_tables, attached_by, few_on, fresh_by, placed_on, refused_on, says_early}
 use Rattle.script_model.specs.Plans.{plans_of}
 use Rattle.host_start.proofs.ready.start_on_disk.Goals as goal
 
@@ -30,3 +32,20 @@ pub returns-in-Ok-clause-refused : goal.returns-in-Ok-clause-refused
 returns-in-Ok-clause-refused g c = λ told.
     let attached = c.in-Ok.ensures.attaches in
     refused_on (g.D.Disk.image_named c.args.disk.now c.args.image.now c.args.size) (g.D.Disk.state c.attach.new.disk) (parts_of (plans_of c.args.script)) c.on.result (attached.content told) (c.in-Ok.ensures.attached told).1 c.on.ensures.cause (c.on.ensures.refused (attached.tells ∙ told))
+
+pub returns-in-Ok-clause-opened : goal.returns-in-Ok-clause-opened
+returns-in-Ok-clause-opened g c = λ started.
+    subst (λ (s : Shape). IsOpened c.args.size true s) (sym c.on.ensures.shape)
+    (record { attached = c.in-Ok.ensures.is_attached tt; writable = c.in-Ok.ensures.as_asked tt; of_size = c.in-Ok.ensures.of_size tt })
+
+pub returns-in-Err-clause-opened : goal.returns-in-Err-clause-opened
+returns-in-Err-clause-opened g c = λ started.
+    record { attached = c.in-Err.ensures.is_attached started; writable = c.in-Err.ensures.as_asked started; of_size = c.in-Err.ensures.of_size started }
+
+pub returns-in-Ok-clause-refused_blocks : goal.returns-in-Ok-clause-refused_blocks
+returns-in-Ok-clause-refused_blocks g c =
+    let same : c.in-Ok.blocks ≡ (g.D.Disk.shape c.on.new.disk).blocks = c.in-Ok.ensures.attaches.count ∙ sym (ap (λ (s : Shape). s.blocks) c.on.ensures.shape) in
+    subst (λ (n : ℕ). IfErr c.on.result (SaysOfBlocks n)) same (few_on c.in-Ok.blocks c.on.result c.in-Ok.ensures.few c.on.ensures.cause)
+
+pub returns-in-Err-clause-refused_blocks : goal.returns-in-Err-clause-refused_blocks
+returns-in-Err-clause-refused_blocks g c = c.in-Err.ensures.blocks

@@ -25,22 +25,6 @@ loop-hand-preserved g c =
       taken = taken_more c.loop-hand.yielded c.in-Some.hand c.args.sessions.now.items c.loop-hand.sessions.items c.put_back.new.sessions.items inv.taken c.put_back.ensures;
     }
 
--- the same where the hand had the room
-pub loop-hand-preserved-in-Some : goal.loop-hand-preserved-in-Some
-loop-hand-preserved-in-Some g c =
-    let inv = c.loop-hand.invariant in
-    let are = one_yielded c.args.hands.items c.loop-hand.yielded c.loop-hand.hand-iterator.rest.items c.next.new.self.rest.items c.in-Some.hand inv.rest c.in-Some.ensures.steps.0 in
-    record {
-      next = tt;
-      ends = tt;
-      rest = are;
-      device_seats = pushed_map (λ hand. hand.device_seat) c.args.room.now.device_seats.items c.loop-hand.yielded c.in-Some.hand c.loop-hand.room.device_seats.items c.push_reserved.new.self.items c.push_reserved.ensures.items inv.device_seats;
-      pool_seats = pushed_map (λ hand. hand.pool_seat) c.args.room.now.pool_seats.items c.loop-hand.yielded c.in-Some.hand c.loop-hand.room.pool_seats.items c.push_reserved-in-loop-hand.new.self.items c.push_reserved-in-loop-hand.ensures.items inv.pool_seats;
-      reports = inv.reports;
-      room = (c.push_reserved.ensures.capacity ∙ inv.room.0, c.push_reserved-in-loop-hand.ensures.capacity ∙ inv.room.1);
-      taken = taken_more c.loop-hand.yielded c.in-Some.hand c.args.sessions.now.items c.loop-hand.sessions.items c.put_back.new.sessions.items inv.taken c.put_back.ensures;
-    }
-
 pub returns : goal.returns
 returns g c =
     let inv = c.loop-hand.invariant in

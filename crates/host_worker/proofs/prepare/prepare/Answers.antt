@@ -15,5 +15,5 @@ returns g c =
       opened = opened_still c.args.specs.now c.args.hands (pool_id c.in_ok-pool.pool) opened c.in_ok-opened.ensures c.deal.new.sessions c.in_ok-shares.shares.items dealt;
       shares = (dealt.count, shares_of_clients c.args.specs.now c.args.hands (pool_id c.in_ok-pool.pool) opened c.in_ok-opened.ensures c.deal.new.sessions c.in_ok-shares.shares.items dealt);
       seats = (omega (arith, c.in_ok-pool.ensures.seats.0, c.in_ok-pool.pool_seats.ok.0), c.in_ok-pool.ensures.seats.1);
-      room = (c.in-Ok.ensures.items, c.in-Ok.ensures.capacity, c.in_ok-ends.ensures.empty, c.in_ok-ends.ensures.room);
+      room = (c.in-Ok.ensures.items, c.in-Ok.ensures.capacity, c.in_ok-ends.ensures.empty, c.in_ok-ends.ensures.room, c.in_ok-ends.ensures.kept);
     }

@@ -74,10 +74,11 @@ returns g c =
     let none : vec_len last.device_seats ≡ 0 = eqb-true (vec_len last.device_seats) 0 (sym c.is_empty.ensures ∙ c.loop-device_seats-test.false) in
     let all : length last.all.items ≡ c.args.hands = omega (arith, i.count, none, last.all.ok.0) in
     let room : ClosingRoom g.row.D.Denot g.D.Disk = record { device_seats = last.device_seats; pool_seats = last.pool_seats; ends = a.ends } in
-    let is_room : IsClosingRoom c.args.hands (length a.opened.sessions.items) room = record {
+    let is_room : IsClosingRoom (steps_of c.args.device).kept c.args.hands (length a.opened.sessions.items) room = record {
       device_seats_fit = (none_of last.device_seats.items (sym last.device_seats.ok.0 ∙ none), i.room.1);
       pool_seats_fit = (none_of last.pool_seats.items (sym last.pool_seats.ok.0 ∙ (i.pool_seats.0 ∙ none)), i.room.2);
       ends_fit = (p.room.2, p.room.3 ∙ length-map a.opened.sessions.items (λ (s : Session). s.spec));
+      ends_kept = p.room.4;
     } in
     let book = book_id made.0 in
     let pool = pool_id a.pool in
@@ -88,5 +89,5 @@ returns g c =
     let every = subst (λ d. AreMade book d pool clients 0 last.all.items) opening (subst (λ (n : ℕ). AreMade book (opening_of made.0) pool clients n last.all.items) none i.made) in
     is_started c.args.device _ c.args.hands _ c.requires.device opening c.in-Ok.ensures.book.0 c.requires.some p.pool c.requires.specs p.opened refl
     (length-set c.reverse.new.self.items 0 _ ∙ (ap length c.reverse.ensures.items ∙ (length-reverse last.all.items ∙ all)))
-    (λ n hand at. first_has_room book c.args.device pool clients last.all.items first room (IsClosingRoom c.args.hands (length a.opened.sessions.items)) there is_room every n hand
+    (λ n hand at. first_has_room book c.args.device pool clients last.all.items first room (IsClosingRoom (steps_of c.args.device).kept c.args.hands (length a.opened.sessions.items)) there is_room every n hand
     (ap (λ l. slice_get (slice_set l 0 (record first { room = Some room })) n) (sym c.reverse.ensures.items) ∙ at))

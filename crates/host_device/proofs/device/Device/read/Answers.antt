@@ -1,6 +1,6 @@
 use Rattle.std.proofs.Common.{IsTrue, ◌∙◌, ap, sym, subst}
 use Rattle.host_block.specs.declared.op.Op.TheVariants.{Read}
-use Rattle.host_block.specs.Room.{WithRoom}
+use Rattle.host_log.specs.Switch.{SwitchedLog}
 use Rattle.host_io.specs.Disks.{Shape}
 use Rattle.host_cache.specs.Seen.{shape_of}
 use Rattle.host_model.specs.declared.step.Step.{Step}
@@ -27,7 +27,7 @@ invariant_of-self g c =
       current = λ t. (now t).current;
       kept = λ t. ∣ (now t).keeps ∣₁;
       faults =
-          subst (λ (s : WithRoom Step). RoseBy (faulted_count s.items) (counts old.opening.value).faults (counts c.make_read.new.cache.disk).faults) (sym m.entry)
+          subst (λ (s : SwitchedLog Step). RoseBy (faulted_count s.items) (counts old.opening.value).faults (counts c.make_read.new.cache.disk).faults) (sym m.entry)
           (
           faults_step
           c.args.hand

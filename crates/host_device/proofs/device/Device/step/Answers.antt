@@ -1,6 +1,6 @@
 use Rattle.std.proofs.Common.{IsTrue, ◌∙◌, ap, sym, subst}
 use Rattle.std.proofs.lemmas.List.{map-append}
-use Rattle.host_block.specs.Room.{WithRoom}
+use Rattle.host_log.specs.Switch.{SwitchedLog}
 use Rattle.host_io.specs.Disks.{Shape}
 use Rattle.host_cache.specs.Seen.{shape_of}
 use Rattle.host_model.specs.declared.step.Step.{Step}
@@ -30,7 +30,7 @@ invariant_of-self g c =
       current = λ t. (now t).current;
       kept = λ t. ∣ (now t).keeps ∣₁;
       faults =
-          subst (λ (s : WithRoom Step). RoseBy (faulted_count s.items) (counts old.opening.value).faults (counts c.make_step.new.cache.disk).faults) (sym m.entry)
+          subst (λ (s : SwitchedLog Step). RoseBy (faulted_count s.items) (counts old.opening.value).faults (counts c.make_step.new.cache.disk).faults) (sym m.entry)
           (
           faults_step
           c.args.hand
@@ -68,7 +68,7 @@ returns-clause-flushed g c =
     let owner : Owner = record { hand = c.args.hand; session = c.args.session; index = c.args.index; k = c.args.k } in
     let added = entries_added c.make_step.result (entry_for owner c.args.op c.args.b c.args.bytes) in
     flushed (image_of old) (history_of old) (changes_of c.make_step.new.steps.items) (g.D.Disk.state new.disk) (IsTrue (shape_of new).tells) c.args.op c.args.b c.args.bytes owner c.make_step.result
-    (ap (λ (s : WithRoom Step). changes_of s.items) m.entry ∙ map-append change_of old.steps.items added)
+    (ap (λ (s : SwitchedLog Step). changes_of s.items) m.entry ∙ map-append change_of old.steps.items added)
     (λ told.
     let before = subst (λ (sh : Shape). IsTrue sh.tells) m.shape told in
     (stepped g.met.D.Disk.of_size old before c.args.op c.args.b c.args.bytes new owner c.make_step.result c.requires.block m.calls c.make_step.new.steps m.entry m.gives m.content).keeps)

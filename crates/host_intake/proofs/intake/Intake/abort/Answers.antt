@@ -22,7 +22,7 @@ pub invariant_of-self : goal.invariant_of-self
 invariant_of-self c = let a = c.self.inside in let k = c.self.invariant.0 in let runs = subst (λ (s : IntakeState). phase_in s.entries ≡ Running) (sym c.self.view_is) c.requires.phase in
     let course = course_begun (turns a.ledger.entries) Aborted k.turned.course runs refl in
     let client = subst (λ (s : IntakeState). c.args.hand + 1 ≡ number s.memory_seat) (sym c.self.view_is) c.requires.client in (
-      subst (λ (z : LedgerState). IsIntake (record (intake_state a) { room = z.room; entries = z.entries; held = None })) (sym c.abort.ensures)
+      subst (λ (z : LedgerState). IsIntake (record (intake_state a) { room = z.room; keeps = z.keeps; entries = z.entries; held = None })) (sym c.abort.ensures)
           (intake_aborted (intake_state a) k Aborted course c.args.hand client (λ e. absurd (unshut e)) refl),
       c.self.invariant.1,
     )

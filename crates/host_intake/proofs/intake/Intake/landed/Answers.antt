@@ -30,7 +30,7 @@ invariant_of-self c = let a = c.self.inside in let s = intake_state a in let i =
     let owed = subst (λ (z : Option CellSeat). c.args.answer ≡ answer_owed (request_at (requests_of (takings s.entries)) i) i c.args.end z) c.in-Some.is
     (subst (λ (s : IntakeState). c.args.answer ≡ answer_owed (request_at (requests_of (takings s.entries)) i) i c.args.end c.args.right) (sym c.self.view_is) c.requires.answer) in
     let joined = c.join_right.ensures.seat in (
-      subst (λ (z : LedgerState). IsIntake (record s { room = z.room; entries = z.entries; cell_seat = c.join_right.new.seat })) (sym c.land.ensures.entry)
+      subst (λ (z : LedgerState). IsIntake (record s { room = z.room; keeps = z.keeps; entries = z.entries; cell_seat = c.join_right.new.seat })) (sym c.land.ensures.entry)
           (intake_landed_member s c.self.invariant.0 c.args.hand i c.args.end c.args.answer c.args.kept flying none lander limit c.in-Some.right settled owed c.join_right.new.seat
           (subst (λ (z : TableId). IsAdmittingOf z c.join_right.new.seat) (sym cells) joined.0) joined.1 joined.2 c.join_right.ensures.back),
       c.self.invariant.1,
@@ -47,7 +47,7 @@ invariant_of-self-in_default c = let a = c.self.inside in let s = intake_state a
     (subst (λ (s : IntakeState). AreSettled (cells_id c.args.cells.now) (requests_of (takings s.entries)) i c.args.end c.args.right) (sym c.self.view_is) c.requires.right)) in
     let owed = subst (λ (z : Option CellSeat). c.args.answer ≡ answer_owed (request_at (requests_of (takings s.entries)) i) i c.args.end z) c.in_default.is
     (subst (λ (s : IntakeState). c.args.answer ≡ answer_owed (request_at (requests_of (takings s.entries)) i) i c.args.end c.args.right) (sym c.self.view_is) c.requires.answer) in (
-      subst (λ (z : LedgerState). IsIntake (record s { room = z.room; entries = z.entries })) (sym c.land.ensures.entry)
+      subst (λ (z : LedgerState). IsIntake (record s { room = z.room; keeps = z.keeps; entries = z.entries })) (sym c.land.ensures.entry)
           (intake_landed_lone s c.self.invariant.0 c.args.hand i c.args.end c.args.answer c.args.kept flying none lander limit settled owed),
       c.self.invariant.1,
     )

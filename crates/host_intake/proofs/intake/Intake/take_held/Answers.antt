@@ -98,8 +98,8 @@ invariant_of-self-then-judged g c =
     let in_cells = cells_given s k e held goes t refl c.args.cells.now q c.from_bytes-request.result c.from_bytes-request.ensures.fields c.in-Ok.right c.in-Ok.ensures.right (refl, admits.1, admits.2, admits.3) c.admit_member.ensures.seat.1 in
     let right = subst (λ (z : TableId). HasRight z (ts ++ t ∷ []) t c.in-Ok.right) (sym mine) (right_given s k e held goes t refl c.args.cells.now q c.from_bytes-request.result c.from_bytes-request.ensures.fields c.in-Ok.right c.in-Ok.ensures.right) in
     let waits = waiting_one ts ls t k.landed (seat_cells s.cell_seat) s.waiting c.in-Ok.right k.waiting (index_next s k e held goes) c.if-judged.true right in (
-      subst (λ (o : Option Envelope). IsIntake (record s { room = c.take_in.new.ledger.room; entries = c.take_in.new.ledger.entries; held = o; waiting = c.push_reserved.new.self.items; memory_seat = m; cell_seat = q })) (sym c.take_in.ensures.held)
-          (subst (λ (z : LedgerState). IsIntake (record s { room = z.room; entries = z.entries; held = None; waiting = c.push_reserved.new.self.items; memory_seat = m; cell_seat = q })) (sym c.take_in.ensures.ledger)
+      subst (λ (o : Option Envelope). IsIntake (record s { room = c.take_in.new.ledger.room; keeps = c.take_in.new.ledger.keeps; entries = c.take_in.new.ledger.entries; held = o; waiting = c.push_reserved.new.self.items; memory_seat = m; cell_seat = q })) (sym c.take_in.ensures.held)
+          (subst (λ (z : LedgerState). IsIntake (record s { room = z.room; keeps = z.keeps; entries = z.entries; held = None; waiting = c.push_reserved.new.self.items; memory_seat = m; cell_seat = q })) (sym c.take_in.ensures.ledger)
           (subst (λ (w : List Waiting). IsIntake (record s { entries = s.entries ++ entry_for t ∷ []; held = None; waiting = w; memory_seat = m; cell_seat = q })) (sym c.push_reserved.ensures.items)
           (intake_taken s k e held goes t refl m q _ rests (c.meet.ensures.from.0.2 ∙ c.judge_next-judged.ensures.seat.0.2) took (admits.0 ∙ sym mine) in_cells waits))),
       subst (λ (z : ℕ). 64 ≤ z) (sym c.push_reserved.ensures.capacity) c.self.invariant.1,
@@ -113,7 +113,7 @@ returns-then-judged-clause-answer g c =
     let t : Taking = record { hand = c.args.hand; envelope = e; verdict = c.judge_next-judged.result.verdict; waits = c.judge_next-judged.result.waits; seen = c.judge_next-judged.result.seen } in
     let from = c.judge_next-judged.new.seat in let to = c.meet.new.to in
     let known = judged_told s.part (number s.memory_seat) (seen_by from) (seen_by to) (takings s.entries) t c.judge_next-judged.ensures.taken c.meet.ensures.told in
-    let new = record s { room = c.take_in.new.ledger.room; entries = c.take_in.new.ledger.entries; held = c.take_in.new.held; waiting = c.push_reserved.new.self.items; memory_seat = c.meet.new.from; cell_seat = c.admit_member.new.seat } in
+    let new = record s { room = c.take_in.new.ledger.room; keeps = c.take_in.new.ledger.keeps; entries = c.take_in.new.ledger.entries; held = c.take_in.new.held; waiting = c.push_reserved.new.self.items; memory_seat = c.meet.new.from; cell_seat = c.admit_member.new.seat } in
     let has = has_taken s k e held goes new to t refl (ap (λ (z : LedgerState). z.entries) c.take_in.ensures.ledger) c.take_in.ensures.held known in (
       refl,
       subst (λ (o : IntakeState). (x : Taking) × IsAdmitted c.args.hand o new to e None None x) c.self.view_is
@@ -134,8 +134,8 @@ invariant_of-self-else-judged g c =
     let in_cells = cells_given s k e held goes t refl c.args.cells.now q c.from_bytes-request.result c.from_bytes-request.ensures.fields c.in-Ok.right c.in-Ok.ensures.right (refl, admits.1, admits.2, admits.3) c.admit_member.ensures.seat.1 in
     let right = subst (λ (z : TableId). HasRight z (ts ++ t ∷ []) t c.in-Ok.right) (sym mine) (right_given s k e held goes t refl c.args.cells.now q c.from_bytes-request.result c.from_bytes-request.ensures.fields c.in-Ok.right c.in-Ok.ensures.right) in
     let waits = waiting_taken ts ls t k.landed (seat_cells s.cell_seat) s.waiting k.waiting in (
-      subst (λ (o : Option Envelope). IsIntake (record s { room = c.take_in.new.ledger.room; entries = c.take_in.new.ledger.entries; held = o; memory_seat = m; cell_seat = q })) (sym c.take_in.ensures.held)
-          (subst (λ (z : LedgerState). IsIntake (record s { room = z.room; entries = z.entries; held = None; memory_seat = m; cell_seat = q })) (sym c.take_in.ensures.ledger)
+      subst (λ (o : Option Envelope). IsIntake (record s { room = c.take_in.new.ledger.room; keeps = c.take_in.new.ledger.keeps; entries = c.take_in.new.ledger.entries; held = o; memory_seat = m; cell_seat = q })) (sym c.take_in.ensures.held)
+          (subst (λ (z : LedgerState). IsIntake (record s { room = z.room; keeps = z.keeps; entries = z.entries; held = None; memory_seat = m; cell_seat = q })) (sym c.take_in.ensures.ledger)
           (intake_taken s k e held goes t refl m q s.waiting rests (c.meet.ensures.from.0.2 ∙ c.judge_next-judged.ensures.seat.0.2) took (admits.0 ∙ sym mine) in_cells waits)),
       c.self.invariant.1,
     )
@@ -150,7 +150,7 @@ returns-clause-answer g c =
     let from = c.judge_next-judged.new.seat in let to = c.meet.new.to in let ts = takings s.entries in let q = c.admit_member.new.seat in
     let known = judged_told s.part (number s.memory_seat) (seen_by from) (seen_by to) ts t c.judge_next-judged.ensures.taken c.meet.ensures.told in
     let was = judged_told s.part (number s.memory_seat) (seen_by from) (seen_by from) ts t c.judge_next-judged.ensures.taken (prefix_refl (seen_by from)) in
-    let new : IntakeState = record s { room = c.take_in.new.ledger.room; entries = c.take_in.new.ledger.entries; held = c.take_in.new.held; memory_seat = c.meet.new.from; cell_seat = q } in
+    let new : IntakeState = record s { room = c.take_in.new.ledger.room; keeps = c.take_in.new.ledger.keeps; entries = c.take_in.new.ledger.entries; held = c.take_in.new.held; memory_seat = c.meet.new.from; cell_seat = q } in
     let entries : c.take_in.new.ledger.entries ≡ s.entries ++ entry_for t ∷ [] = ap (λ (z : LedgerState). z.entries) c.take_in.ensures.ledger in
     let has = has_taken s k e held goes new to t refl entries c.take_in.ensures.held known in
     let right = subst (λ (z : TableId). HasRight z (ts ++ t ∷ []) t c.in-Ok.right) (sym mine) (right_given s k e held goes t refl c.args.cells.now q c.from_bytes-request.result c.from_bytes-request.ensures.fields c.in-Ok.right c.in-Ok.ensures.right) in

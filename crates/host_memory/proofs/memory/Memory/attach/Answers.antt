@@ -1,5 +1,5 @@
-use Rattle.std.proofs.Common.{◌≡◌, ◌+◌, ◌<◌, ◌≤◌, List, [], ◌∷◌, ◌++◌, length, replicate, suc, sym, subst, arith}
-use Rattle.host_block.specs.Room.{WithRoom}
+use Rattle.std.proofs.Common.{◌≡◌, ◌+◌, ◌<◌, ◌≤◌, List, [], ◌∷◌, ◌++◌, length, replicate, suc, sym, subst, arith, ◌∙◌, ap}
+use Rattle.host_log.specs.Switch.{SwitchedLog}
 use Rattle.host_frames.specs.Seats.{contents, pages_pool, pool_id}
 use Rattle.host_model.specs.declared.memory.MemEntry.{MemEntry}
 use Rattle.host_model.specs.declared.memory.MemEvent.TheVariants.{Attach}
@@ -19,9 +19,10 @@ invariant_of-self c = let m = c.self.inside in let pool = pool_id m.pool.value i
     let few : length m.buffers.items < m.limits.ids = (let given = c.self.invariant.0.told.given in omega arith) in
     let id : suc (length m.buffers.items) ≡ c.len.result + 1 = (let e = c.len.ensures in let ok = m.buffers.ok.0 in omega arith) in
     let kept = kept_attached m.limits pool m.entries m.moves m.pins m.buffers.items c.self.invariant.0 (c.len.result + 1) n c.args.from ps id c.len-page_count.ensures of_pool blank (let fits : n < 4294967296 = c.len-page_count.type_inv in omega arith) room few in (
-      subst (λ (z : WithRoom MemEntry). IsKept m.limits pool z m.moves m.pins c.push_reserved.new.self.items) (sym c.push.ensures)
+      subst (λ (z : SwitchedLog MemEntry). IsKept m.limits pool z m.moves m.pins c.push_reserved.new.self.items) (sym c.push.ensures)
           (subst (λ (bs : List Buffer). IsKept m.limits pool (record m.entries { items = m.entries.items ++ record { hand = m.limits.hands; what = Attach (c.len.result + 1) n c.args.from } ∷ [] }) m.moves m.pins bs) (sym c.push_reserved.ensures.items) kept),
       (let same = c.push_reserved.ensures.capacity in let was = c.self.invariant.1 in omega arith),
       c.self.invariant.2,
       c.self.invariant.3,
+      ap (λ (z : SwitchedLog MemEntry). z.kept) c.push.ensures ∙ c.self.invariant.4,
     )

@@ -1,5 +1,5 @@
 use Rattle.std.proofs.Common.{◌≡◌, ◌+◌, ◌≤◌, ◌∙◌, [], ◌∷◌, ◌++◌, set, suc, false, sym, ap, subst, arith}
-use Rattle.host_block.specs.Room.{WithRoom}
+use Rattle.host_log.specs.Switch.{SwitchedLog}
 use Rattle.host_frames.specs.Seats.{pool_id}
 use Rattle.host_model.specs.declared.memory.MemEntry.{MemEntry}
 use Rattle.host_model.specs.declared.memory.MemEvent.TheVariants.{Fill}
@@ -24,10 +24,11 @@ invariant_of-self c = let m = c.self.inside in let x = c.index_mut.result.now in
     let still : is_released (suc i) (events m.entries.items) ≡ false =
     subst (λ h. is_released (suc i) h ≡ false) (sym seen) (subst (λ v. is_released v (history c.args.self.now) ≡ false) (sym id) (unreleased c.args.id (history c.args.self.now) c.args.block c.args.count found.2)) in
     let room : used_room (events m.entries.items) + 1 ≤ m.limits.room = subst (λ (s : MemoryState). used_room (history s) + 1 ≤ s.plan.limits.room) (sym c.self.view_is) c.requires in (
-      subst (λ (z : WithRoom MemEntry). IsKept m.limits pool z m.moves m.pins (set m.buffers.items i c.fill.new.self)) (sym c.push.ensures)
+      subst (λ (z : SwitchedLog MemEntry). IsKept m.limits pool z m.moves m.pins (set m.buffers.items i c.fill.new.self)) (sym c.push.ensures)
           (subst (λ (y : Buffer). IsKept m.limits pool (record m.entries { items = m.entries.items ++ record { hand = m.limits.hands; what = Fill c.args.id c.args.block c.args.count c.args.byte } ∷ [] }) m.moves m.pins (set m.buffers.items i y)) (sym c.fill.ensures.same)
           (kept_filled m.limits pool m.entries m.moves m.pins m.buffers.items c.self.invariant.0 i x at still room c.args.id c.args.block c.args.count c.args.byte c.fill.new.self.pages id c.fill.ensures.outline c.fill.ensures.pages)),
       c.self.invariant.1,
       c.self.invariant.2,
       c.self.invariant.3,
+      ap (λ (z : SwitchedLog MemEntry). z.kept) c.push.ensures ∙ c.self.invariant.4,
     )

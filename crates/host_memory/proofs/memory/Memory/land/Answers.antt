@@ -1,6 +1,6 @@
 use Rattle.std.proofs.Common.{◌≡◌, ◌≤◌, ◌-◌, ◌∙◌, [], ◌∷◌, ◌++◌, true, length, set, sym, ap, subst, arith}
 use Rattle.host_memory.specs.Held.{is_block_of}
-use Rattle.host_block.specs.Room.{WithRoom}
+use Rattle.host_log.specs.Switch.{SwitchedLog}
 use Rattle.host_frames.specs.Seats.{pool_id}
 use Rattle.host_model.specs.declared.memory.MemEntry.{MemEntry}
 use Rattle.host_model.specs.declared.memory.MemEvent.TheVariants.{Land}
@@ -48,10 +48,11 @@ invariant_of-self c = let m = c.self.inside in let x = c.index_mut.result.now in
     let own = pinned_own m.limits pool m.entries m.moves m.pins m.buffers.items c.self.invariant.0 c.args.hand c.args.index c.args.id pinned in
     let put : contents_held c.copy_in.new.self.pages ≡ set (contents_held x.pages) c.args.block c.args.keep = c.copy_in.ensures.pages ∙ ap (λ w. set (contents_held x.pages) c.args.block w) c.as_slice.ensures in
     let kept = kept_landed m.limits pool m.entries m.moves m.pins m.buffers.items c.self.invariant.0 i x at still c.args.hand c.args.index c.args.k c.args.block c.args.keep c.copy_in.new.self.pages room own c.copy_in.ensures.outline put lt long in (
-      subst (λ (z : WithRoom MemEntry). IsKept m.limits pool z (m.moves - 1) m.pins (set m.buffers.items i c.copy_in.new.self)) (sym c.push.ensures)
+      subst (λ (z : SwitchedLog MemEntry). IsKept m.limits pool z (m.moves - 1) m.pins (set m.buffers.items i c.copy_in.new.self)) (sym c.push.ensures)
           (subst (λ (y : Buffer). IsKept m.limits pool (record m.entries { items = m.entries.items ++ record { hand = c.args.hand; what = Land c.args.index c.args.k c.args.id c.args.block c.args.keep } ∷ [] }) (m.moves - 1) m.pins (set m.buffers.items i y)) (sym c.copy_in.ensures.same)
           (subst (λ v. IsKept m.limits pool (record m.entries { items = m.entries.items ++ record { hand = c.args.hand; what = Land c.args.index c.args.k v c.args.block c.args.keep } ∷ [] }) (m.moves - 1) m.pins (set m.buffers.items i (record x { pages = c.copy_in.new.self.pages }))) id kept)),
       c.self.invariant.1,
       c.self.invariant.2,
       c.self.invariant.3,
+      ap (λ (z : SwitchedLog MemEntry). z.kept) c.push.ensures ∙ c.self.invariant.4,
     )

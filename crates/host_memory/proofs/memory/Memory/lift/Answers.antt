@@ -1,6 +1,6 @@
 use Rattle.std.proofs.Common.{◌≡◌, ◌≤◌, ◌-◌, ◌∙◌, [], ◌∷◌, ◌++◌, true, suc, length, sym, ap, subst, arith}
 use Rattle.host_memory.specs.Held.{is_block_of}
-use Rattle.host_block.specs.Room.{WithRoom}
+use Rattle.host_log.specs.Switch.{SwitchedLog}
 use Rattle.host_frames.specs.Seats.{pool_id}
 use Rattle.host_model.specs.declared.memory.MemEntry.{MemEntry}
 use Rattle.host_model.specs.declared.memory.MemEvent.TheVariants.{Lift}
@@ -39,11 +39,12 @@ invariant_of-self c = let m = c.self.inside in let x = c.index.result.now in let
     let is : keep ≡ page_at m.limits.size (events m.entries.items) (suc i) c.args.block =
     c.in_ok-bytes.ensures ∙ (c.in_ok-piece.ensures ∙ (c.page.ensures ∙ (page ∙ ap (λ v. page_at m.limits.size (events m.entries.items) v c.args.block) (sym id)))) in
     let kept = kept_lifted m.limits pool m.entries m.moves m.pins m.buffers.items c.self.invariant.0 i x at still c.args.hand c.args.index c.args.k c.args.block keep room own is in (
-      subst (λ (z : WithRoom MemEntry). IsKept m.limits pool z (m.moves - 1) m.pins m.buffers.items) (sym c.push.ensures)
+      subst (λ (z : SwitchedLog MemEntry). IsKept m.limits pool z (m.moves - 1) m.pins m.buffers.items) (sym c.push.ensures)
           (subst (λ v. IsKept m.limits pool (record m.entries { items = m.entries.items ++ record { hand = c.args.hand; what = Lift c.args.index c.args.k v c.args.block keep } ∷ [] }) (m.moves - 1) m.pins m.buffers.items) id kept),
       c.self.invariant.1,
       c.self.invariant.2,
       c.self.invariant.3,
+      ap (λ (z : SwitchedLog MemEntry). z.kept) c.push.ensures ∙ c.self.invariant.4,
     )
 
 pub returns-clause-bytes : goal.returns-clause-bytes

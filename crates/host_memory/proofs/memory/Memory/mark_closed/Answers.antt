@@ -1,6 +1,6 @@
-use Rattle.std.proofs.Common.{◌≡◌, ◌+◌, ◌-◌, [], ◌∷◌, ◌++◌, None, Some, true, set, sym, subst, arith}
+use Rattle.std.proofs.Common.{◌≡◌, ◌+◌, ◌-◌, [], ◌∷◌, ◌++◌, None, Some, true, set, sym, subst, arith, ◌∙◌, ap}
 use Rattle.std.specs.Option.{is_some}
-use Rattle.host_block.specs.Room.{WithRoom}
+use Rattle.host_log.specs.Switch.{SwitchedLog}
 use Rattle.host_frames.specs.Seats.{pool_id}
 use Rattle.host_model.specs.declared.memory.MemEntry.{MemEntry}
 use Rattle.host_model.specs.declared.memory.MemEvent.TheVariants as mem
@@ -29,12 +29,13 @@ invariant_of-self c = let m = c.self.inside in let x = c.index_mut.result.now in
     let id = stands_suc m.limits pool m.entries m.moves m.pins m.buffers.items c.self.invariant.0 c.args.id c.args.index stands in
     let number = subst (λ (s : MemoryState). c.args.hand ≡ admissions_of s) (sym c.self.view_is) c.requires.number in
     let kept = kept_closed m.limits pool m.entries m.moves m.pins m.buffers.items c.self.invariant.0 i x at held c.args.index never.0 in (
-      subst (λ (z : WithRoom MemEntry). IsKept m.limits pool z m.moves m.pins (set m.buffers.items i (record x { closer = Some c.args.index }))) (sym c.push.ensures)
+      subst (λ (z : SwitchedLog MemEntry). IsKept m.limits pool z m.moves m.pins (set m.buffers.items i (record x { closer = Some c.args.index }))) (sym c.push.ensures)
           (subst (λ n. IsKept m.limits pool (record m.entries { items = m.entries.items ++ record { hand = n; what = mem.Close c.args.index c.args.id } ∷ [] }) m.moves m.pins (set m.buffers.items i (record x { closer = Some c.args.index }))) (sym number)
           (subst (λ v. IsKept m.limits pool (record m.entries { items = m.entries.items ++ record { hand = m.limits.hands + 1; what = mem.Close c.args.index v } ∷ [] }) m.moves m.pins (set m.buffers.items i (record x { closer = Some c.args.index }))) id kept)),
       c.self.invariant.1,
       c.self.invariant.2,
       c.self.invariant.3,
+      ap (λ (z : SwitchedLog MemEntry). z.kept) c.push.ensures ∙ c.self.invariant.4,
     )
 
 pub push-requires : goal.push-requires

@@ -1,5 +1,5 @@
 use Rattle.std.proofs.Common.{◌≡◌, ◌-◌, ◌∙◌, [], ◌∷◌, ◌++◌, None, Some, true, suc, set, sym, ap, subst, arith}
-use Rattle.host_block.specs.Room.{WithRoom}
+use Rattle.host_log.specs.Switch.{SwitchedLog}
 use Rattle.host_frames.specs.Seats.{pool_id}
 use Rattle.host_model.specs.declared.memory.MemEntry.{MemEntry}
 use Rattle.host_model.specs.declared.memory.MemEvent.TheVariants.{Release}
@@ -38,12 +38,13 @@ invariant_of-self c = let m = c.self.inside in let x = c.index_mut.result.now in
     let id = holds_suc m.limits pool m.entries m.moves m.pins m.buffers.items c.self.invariant.0 c.args.id holds in
     let free : pins_on (suc i) (events m.entries.items) ≡ 0 = subst (λ v. pins_on v (events m.entries.items) ≡ 0) (sym id) (subst (λ (s : MemoryState). pins_on c.args.id (history s) ≡ 0) (sym c.self.view_is) c.requires.free) in
     let kept = kept_released m.limits pool m.entries m.moves m.pins m.buffers.items c.self.invariant.0 i x at held c.args.hand free (holds_owed m.limits pool m.entries m.moves m.pins m.buffers.items c.self.invariant.0 c.args.id holds x c.index_mut.ensures.value) in (
-      subst (λ (z : WithRoom MemEntry). IsKept m.limits pool z m.moves m.pins (set m.buffers.items i (record x { pages = c.take.new.self }))) (sym c.push.ensures)
+      subst (λ (z : SwitchedLog MemEntry). IsKept m.limits pool z m.moves m.pins (set m.buffers.items i (record x { pages = c.take.new.self }))) (sym c.push.ensures)
           (subst (λ p. IsKept m.limits pool (record m.entries { items = m.entries.items ++ record { hand = c.args.hand; what = Release c.args.id } ∷ [] }) m.moves m.pins (set m.buffers.items i (record x { pages = p }))) (sym c.take.ensures.after)
           (subst (λ v. IsKept m.limits pool (record m.entries { items = m.entries.items ++ record { hand = c.args.hand; what = Release v } ∷ [] }) m.moves m.pins (set m.buffers.items i (record x { pages = None }))) id kept)),
       c.self.invariant.1,
       c.self.invariant.2,
       c.self.invariant.3,
+      ap (λ (z : SwitchedLog MemEntry). z.kept) c.push.ensures ∙ c.self.invariant.4,
     )
 
 pub returns-clause-pages : goal.returns-clause-pages

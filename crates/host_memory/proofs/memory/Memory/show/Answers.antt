@@ -1,6 +1,6 @@
 use Rattle.std.proofs.Common.{◌≡◌, ◌+◌, ◌≤◌, ◌∙◌, [], ◌∷◌, ◌++◌, suc, Some, false, sym, ap, subst, arith, flat_map}
 use Rattle.std.specs.List.{range_with_len}
-use Rattle.host_block.specs.Room.{WithRoom}
+use Rattle.host_log.specs.Switch.{SwitchedLog}
 use Rattle.host_frames.specs.Seats.{pool_id}
 use Rattle.host_model.specs.declared.memory.MemEntry.{MemEntry}
 use Rattle.host_model.specs.declared.memory.MemEvent.TheVariants.{Show}
@@ -34,11 +34,12 @@ invariant_of-self c = let m = c.self.inside in let x = c.index.result.now in let
     subst (λ h. is_released (suc i) h ≡ false) (sym seen) (subst (λ v. is_released v (history c.args.self.now) ≡ false) (sym id) (unreleased c.args.id (history c.args.self.now) c.args.block c.args.count found.2)) in
     let room : used_room (events m.entries.items) + 1 ≤ m.limits.room = subst (λ (s : MemoryState). used_room (history s) + 1 ≤ s.plan.limits.room) (sym c.self.view_is) c.requires.room in
     let kept = kept_shown m.limits pool m.entries m.moves m.pins m.buffers.items c.self.invariant.0 i x at still c.args.block c.args.count room in (
-      subst (λ (z : WithRoom MemEntry). IsKept m.limits pool z m.moves m.pins m.buffers.items) (sym c.push.ensures)
+      subst (λ (z : SwitchedLog MemEntry). IsKept m.limits pool z m.moves m.pins m.buffers.items) (sym c.push.ensures)
           (subst (λ v. IsKept m.limits pool (record m.entries { items = m.entries.items ++ record { hand = m.limits.hands; what = Show v c.args.block c.args.count } ∷ [] }) m.moves m.pins m.buffers.items) id kept),
       c.self.invariant.1,
       c.self.invariant.2,
       c.self.invariant.3,
+      ap (λ (z : SwitchedLog MemEntry). z.kept) c.push.ensures ∙ c.self.invariant.4,
     )
 
 pub returns-clause-bytes : goal.returns-clause-bytes

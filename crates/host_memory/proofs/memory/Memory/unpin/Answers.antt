@@ -1,5 +1,5 @@
-use Rattle.std.proofs.Common.{◌≡◌, ◌-◌, [], ◌∷◌, ◌++◌, true, set, sym, subst, arith}
-use Rattle.host_block.specs.Room.{WithRoom}
+use Rattle.std.proofs.Common.{◌≡◌, ◌-◌, [], ◌∷◌, ◌++◌, true, set, sym, subst, arith, ◌∙◌, ap}
+use Rattle.host_log.specs.Switch.{SwitchedLog}
 use Rattle.host_frames.specs.Seats.{pool_id}
 use Rattle.host_model.specs.declared.memory.MemEntry.{MemEntry}
 use Rattle.host_model.specs.declared.memory.MemEvent.TheVariants.{Done}
@@ -49,11 +49,12 @@ invariant_of-self c = let m = c.self.inside in let x = c.index_mut.result.now in
     let id = pinned_suc m.limits pool m.entries m.moves m.pins m.buffers.items c.self.invariant.0 c.args.hand c.args.index c.args.id pinned in
     let here = subst (λ v. is_pinned_by c.args.hand c.args.index v (events m.entries.items) ≡ true) (sym id) pinned in
     let kept = kept_unpinned m.limits pool m.entries m.moves m.pins m.buffers.items c.self.invariant.0 c.args.hand c.args.index i x at still here in (
-      subst (λ (z : WithRoom MemEntry). IsKept m.limits pool z m.moves (m.pins - 1) (set m.buffers.items i (record x { pins = x.pins - 1 }))) (sym c.push.ensures)
+      subst (λ (z : SwitchedLog MemEntry). IsKept m.limits pool z m.moves (m.pins - 1) (set m.buffers.items i (record x { pins = x.pins - 1 }))) (sym c.push.ensures)
           (subst (λ v. IsKept m.limits pool (record m.entries { items = m.entries.items ++ record { hand = c.args.hand; what = Done c.args.index v } ∷ [] }) m.moves (m.pins - 1) (set m.buffers.items i (record x { pins = x.pins - 1 }))) id kept),
       c.self.invariant.1,
       c.self.invariant.2,
       c.self.invariant.3,
+      ap (λ (z : SwitchedLog MemEntry). z.kept) c.push.ensures ∙ c.self.invariant.4,
     )
 
 pub returns-clause-held : goal.returns-clause-held

@@ -1,5 +1,5 @@
 use Rattle.std.proofs.Common.{◌≡◌, ◌&&◌, false, true, cond, nat_lt, IsSome, inr, sym, ap, subst, ◌∙◌}
-use Rattle.host_block.specs.Room.{WithRoom}
+use Rattle.host_log.specs.Switch.{SwitchedLog}
 use Rattle.host_model.specs.declared.event.Event.{Event}
 use Rattle.host_session.specs.Client.{ClientState, is_aborted, is_drained}
 use Rattle.host_session.specs.ClientFields.{client_state}
@@ -85,4 +85,4 @@ returns g c =
     let new : ClientState = client_state (record a { log = c.push.new.self; closed = true; fronts = record { device = a.fronts.device; memory = r.result.memory_front }; intake_seat = r.new.intake_seat; memory_seat = r.new.memory_seat }) in
     inr (subst (λ (s : ClientState). (s.closed ≡ false) × IsClosing s new c.args.seat.now r.new.seat) c.self.view_is
     (closed_answer a c.self.invariant c.if-self.false r.new.intake_seat r.new.memory_seat c.args.seat.now r.new.seat c.wanted_for.result r.result.memory_front wanted answered
-    (when_true _ _ r.result.closed (not_false r.result.closed c.if-not-attempt.false) r.ensures) c.push.new.self (ap (λ (x : WithRoom Event). x.items) c.push.ensures ∙ drain_event a.finish a.log.items drained)))
+    (when_true _ _ r.result.closed (not_false r.result.closed c.if-not-attempt.false) r.ensures) c.push.new.self (ap (λ (x : SwitchedLog Event). x.items) c.push.ensures ∙ drain_event a.finish a.log.items drained)))

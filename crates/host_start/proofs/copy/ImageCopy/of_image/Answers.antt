@@ -1,5 +1,6 @@
 use Rattle.std.proofs.Common.{◌≡◌, ◌∙◌, ℕ, ◌<◌, List, length, arith, ap, sym, subst}
 use Rattle.host_block.specs.Disk.{IsOfSize}
+use Rattle.host_io.specs.Disks.{Shape}
 use Rattle.host_start.proofs.CopyLemmas.{copied_image, length-image_in, length-image_of, some_bytes}
 use Rattle.host_start.proofs.copy.ImageCopy.of_image.Goals as goal
 
@@ -23,3 +24,10 @@ returns-clause-few g c =
     let cut = length-image_of c.args.size c.in_ok-blocks.blocks c.in_ok-bytes.bytes.items some c.in_ok-bytes.ensures.length in
     let same = sym (length-image_in c.of_bytes.result) ∙ ap (λ (l : List (List ℕ)). length l) c.of_bytes.ensures.image ∙ cut in
     omega (arith, same, c.in_ok-blocks.ensures.few)
+
+pub returns-clause-counted : goal.returns-clause-counted
+returns-clause-counted g c =
+    let some : 0 < c.args.size = some_bytes c.args.size c.bytes-bytes.result c.bytes-bytes.ensures.value c.bytes-bytes.ensures.allowed in
+    let cut = length-image_of c.args.size c.in_ok-blocks.blocks c.in_ok-bytes.bytes.items some c.in_ok-bytes.ensures.length in
+    let same = sym (length-image_in c.of_bytes.result) ∙ ap (λ (l : List (List ℕ)). length l) c.of_bytes.ensures.image ∙ cut in
+    same ∙ c.in_ok-blocks.ensures.attaches.count ∙ sym (ap (λ (s : Shape). s.blocks) c.in_ok-bytes.ensures.shape)

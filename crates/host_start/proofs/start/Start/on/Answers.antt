@@ -28,6 +28,7 @@ returns-in-Ok-clause-placed g c =
     record {
       layout = layout_of table c.args.blocks;
       blocks = refl;
+      used = c.in_ok-table.ensures.entries;
       places = all_placed c.in_ok-parts.parts (layout_of table c.args.blocks) c.args.script.sessions.items c.as_slice.result.now c.in-Ok.places.items c.in_ok-parts.ensures c.as_slice.ensures c.in-Ok.ensures.finds;
       on_image = λ told. layout_on (current_image state) table c.args.blocks (c.in_ok-table.ensures.table told)
           (c.requires.blocks ∙ sym (image_length shape.blocks shape.size state (g.met.D.Disk.of_size c.args.disk.now told)));

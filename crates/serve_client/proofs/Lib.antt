@@ -1,0 +1,4 @@
+mod Alone
+mod Asked
+mod Beginning
+mod Outcomes
