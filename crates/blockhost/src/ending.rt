@@ -21,8 +21,8 @@ pub struct Ended<D> {
     pub disk: D,
 }
 
-/// Runs the words. What the run leaves in memory isn't given back: the process ends next, and giving back a long report piece by
-/// piece would take longer.
+/// Runs the words. What the run leaves in memory isn't given back: the process ends next, and
+/// giving back a long report piece by piece would take longer.
 pub fn run_words<'a, R: Threads + Wait + Sync, S: Source, D: Disk + Send, K: Sink>(
     rt: &R,
     alloc: Global,
@@ -60,7 +60,8 @@ pub fn run_words<'a, R: Threads + Wait + Sync, S: Source, D: Disk + Send, K: Sin
     }
 }
 
-/// The exit status of the program: the number of the run, or that of want of memory where nothing could be run.
+/// The exit status of the program: the number of the run, or that of want of memory where nothing
+/// could be run.
 pub fn exit_code(number: io::Result<u8>) -> ExitCode
     ensures ok { IfOk number (λ number. exit_status result ≡ number) }
     ensures err { OnErr number (exit_status result ≡ 8) }

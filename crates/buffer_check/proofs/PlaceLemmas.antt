@@ -1,7 +1,7 @@
 -- One place more.
 use Rattle.std.proofs.Common.{◌≡◌, ℕ, suc, ◌+◌, ◌<◌, ◌≤◌, Bool, true, false, cond, List, [], ◌∷◌, ◌++◌, length, take, get_or, refl, sym, ap, ◌∙◌, arith}
 use Rattle.std.proofs.lemmas.List.{length-take-le, take_more}
-use Rattle.host_model.specs.Lists.{places, places_from}
+use Rattle.host_model.specs.{places, places_from}
 
 cond-append : {A : Type 0} (b : Bool) (x : A) (ys zs : List A) → cond b (x ∷ ys ++ zs) (ys ++ zs) ≡ cond b (x ∷ ys) ys ++ zs
 cond-append true x ys zs = refl

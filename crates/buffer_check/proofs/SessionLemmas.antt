@@ -1,19 +1,10 @@
 -- A session is lawful where each of its tests holds.
 use Rattle.std.proofs.Common.{◌≡◌, ◌↔◌, ℕ, ◌<◌, Bool, true, false, ◌&&◌, IsTrue, nat_eq, List, [], ◌∷◌, ◌++◌, length, filter, filter_map, refl, sym, ap, ◌∙◌}
 use Rattle.std.specs.List.{list_all, range_with_len}
-use Rattle.host_model.specs.Buffers.{IsBufferHistory, is_answer_for, is_used_rightly}
-use Rattle.host_model.specs.ClientEntries.{is_client, told}
-use Rattle.host_model.specs.Lists.{all_after, all_with_before, map_with_before, same_counts}
-use Rattle.host_model.specs.Log.{given, requests, sent}
-use Rattle.host_model.specs.Pages.{found_by, lifts_page, shown_bytes}
-use Rattle.host_model.specs.RecordEntries.{HasEntries, names_taken}
-use Rattle.host_model.specs.Releases.{comes_before_release, pins_before_close, released}
+use Rattle.host_model.specs.{IsBufferHistory, is_answer_for, is_used_rightly, is_client, told, all_after, all_with_before, map_with_before, same_counts, given, requests, sent, found_by, lifts_page, shown_bytes, HasEntries, names_taken, comes_before_release, pins_before_close, released, verdicts, Event, Attached, NotAttached, Filled, Sent, Received, Shown, Drained, Aborted}
 use Rattle.host_model.specs.Session.{Session}
-use Rattle.host_model.specs.Verdict.{verdicts}
 use Rattle.host_model.proofs.ListTests.{and-from, both}
-use Rattle.host_model.specs.declared.event.Event.{Event}
-use Rattle.host_model.specs.declared.event.Event.TheVariants.{Attached, NotAttached, Filled, Sent, Received, Shown, Drained, Aborted}
-use Rattle.buffer_check.specs.Owners.{is_answer_by, is_used_by}
+use Rattle.buffer_check.specs.{is_answer_by, is_used_by}
 
 pub buffers_is : (s : Session) (a b c d e f g h i j : Bool)
     → (IsTrue a ↔ (filter is_client s.memory ≡ told s.log))

@@ -2,15 +2,10 @@
 use Rattle.std.proofs.Common.{◌≡◌, ℕ, suc, ◌+◌, true, false, cond, List, [], ◌∷◌, ◌++◌, length, filter, Option, Some, None, is_some, refl, ap, ◌∙◌, length-append}
 use Rattle.std.proofs.lemmas.List.Elements.{filter_map-append}
 use Rattle.std.specs.List.{cons_option}
-use Rattle.host_model.specs.declared.event.Event.{Event}
-use Rattle.host_model.specs.declared.event.Event.TheVariants.{Attached, NotAttached, Filled, Sent, Received, Shown, Drained, Aborted}
-use Rattle.host_model.specs.declared.memory.MemEvent.{MemEvent}
-use Rattle.host_model.specs.ClientEntries.{entry_after, told}
-use Rattle.host_model.specs.Lists.{map_after}
-use Rattle.host_model.specs.Log.{sent, sent_bytes}
-use Rattle.buffer_check.specs.Told.{entry_at, has_entry, sent_by, told_from}
+use Rattle.host_model.specs.{Event, Attached, NotAttached, Filled, Sent, Received, Shown, Drained, Aborted, MemEvent, entry_after, told, map_after, sent, sent_bytes}
+use Rattle.buffer_check.specs.{entry_at, has_entry, sends_in, told_from}
 
-one_sent : (e : Event) → length (sent (e ∷ [])) ≡ sent_by e
+one_sent : (e : Event) → length (sent (e ∷ [])) ≡ sends_in e
 one_sent (Attached pages id) = refl
 one_sent (NotAttached pages cause) = refl
 one_sent (Filled id block count byte done) = refl
@@ -20,7 +15,7 @@ one_sent (Shown id block count done bytes) = refl
 one_sent Drained = refl
 one_sent Aborted = refl
 
-sent-push : (before : List Event) (e : Event) → length (sent (before ++ e ∷ [])) ≡ length (sent before) + sent_by e
+sent-push : (before : List Event) (e : Event) → length (sent (before ++ e ∷ [])) ≡ length (sent before) + sends_in e
 sent-push before e =
     ap length (filter_map-append sent_bytes before (e ∷ []))
     ∙ length-append (sent before) (sent (e ∷ []))
@@ -68,7 +63,7 @@ length-cons (Some x) e xs es h = ap suc h
 length_from : (n : ℕ) (log : List Event) → length (told_from n log) ≡ length (filter has_entry log)
 length_from n [] = refl
 length_from n (e ∷ log) =
-    length-cons (entry_at n e) e (told_from (n + sent_by e) log) (filter has_entry log) (length_from (n + sent_by e) log)
+    length-cons (entry_at n e) e (told_from (n + sends_in e) log) (filter has_entry log) (length_from (n + sends_in e) log)
     ∙ ap (λ b. length (cond b (e ∷ filter has_entry log) (filter has_entry log))) (has_is n e)
 
 pub length_told : (log : List Event) → length (told log) ≡ length (filter has_entry log)

@@ -14,4 +14,5 @@ abbrev pub AreOwed : Request → TakenRow → List Step → ℕ → List MemEven
 AreOwed r row steps i own = own ≡ entries_owed row.verdict row.outcome i r steps own
 
 abbrev pub HasEntriesBy : List Request → List TakenRow → List Step → List MemEvent → ℕ → Type 0
-HasEntriesBy rs rows steps history i = AreOwed (request_at rs i) (row_at rows i) (steps_of i steps) i (entries_of i history)
+HasEntriesBy rs rows steps history i =
+    AreOwed (request_at rs i) (row_at rows i) (steps_of i steps) i (entries_of i history)

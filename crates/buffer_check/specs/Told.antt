@@ -7,9 +7,9 @@ use Rattle.host_model.specs.declared.memory.MemEvent.{MemEvent}
 use Rattle.host_model.specs.declared.memory.MemEvent.TheVariants.{Attach, Fill, Show}
 
 -- how many records an event sends
-abbrev pub sent_by : Event → ℕ
-sent_by (Sent index bytes) = 1
-sent_by _ = 0
+abbrev pub sends_in : Event → ℕ
+sends_in (Sent index bytes) = 1
+sends_in _ = 0
 
 -- whether an event has an entry
 abbrev pub has_entry : Event → Bool
@@ -27,4 +27,4 @@ entry_at n _ = None
 
 abbrev pub told_from : ℕ → List Event → List MemEvent
 told_from n [] = []
-told_from n (e ∷ log) = cons_option (entry_at n e) (told_from (n + sent_by e) log)
+told_from n (e ∷ log) = cons_option (entry_at n e) (told_from (n + sends_in e) log)

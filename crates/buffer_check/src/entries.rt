@@ -33,7 +33,9 @@ pub fn all_have_entries(
     steps: &[Step],
     history: &[MemEvent],
 ) -> Result<bool, Oom>
-    ensures { IfOk result (λ b. IsTrue b ↔ ((i : ℕ) → i < length rows.now → HasEntriesBy rs.now rows.now steps.now history.now i)) }
+    ensures { IfOk result (λ b.
+        IsTrue b
+        ↔ ((i : ℕ) → i < length rows.now → HasEntriesBy rs.now rows.now steps.now history.now i)) }
 {
     let mut all = true;
     for i in 0..rows.len() {

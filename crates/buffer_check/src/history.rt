@@ -2,7 +2,7 @@
 ghost use Rattle.std.specs.Prelude.{◌≡◌, ◌++◌, [], filter, map, if◌then◌else◌, ◌∷◌, IfOk, OnOk};
 ghost use Rattle.std.specs.List.{cons_option};
 ghost use Rattle.host_model.specs.ClientEntries.{is_client};
-ghost use Rattle.host_model.specs.RecordEntries.{entries_of, entry_of};
+ghost use Rattle.host_model.specs.RecordEntries.{entries_of, record_entry};
 
 use crate::events::copy_of;
 use host_block::Oom;
@@ -22,7 +22,8 @@ fn push_some(list: &mut Vec<MemEvent>, event: Option<MemEvent>) -> Result<(), Oo
 }
 
 fn push_if(list: &mut Vec<MemEvent>, event: &MemEvent, wanted: bool) -> Result<(), Oom>
-    ensures { OnOk result (list.new.items ≡ list.old.items ++ (if wanted then event.now ∷ [] else [])) }
+    ensures { OnOk result
+        (list.new.items ≡ list.old.items ++ (if wanted then event.now ∷ [] else [])) }
 {
     if wanted {
         let event = copy_of(event)?;
@@ -74,7 +75,7 @@ pub fn client_entries(alloc: Global, history: &[MemEvent]) -> Result<Vec<MemEven
 
 // The entry, where it was made for record i.
 fn entry_of_record(i: usize, event: &MemEvent) -> Result<Option<MemEvent>, Oom>
-    ensures { IfOk result (λ o. o ≡ entry_of i event.now) }
+    ensures { IfOk result (λ o. o ≡ record_entry i event.now) }
 {
     match event {
         MemEvent::Pin { index, id, .. } if *index as usize == i => Ok(Some(MemEvent::Pin {

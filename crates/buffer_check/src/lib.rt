@@ -1,5 +1,5 @@
-//! The plain judge of a session's buffers: whether their history is what it has to be. It is slow, takes memory as it
-//! likes, and shares nothing with the server.
+//! The plain judge of a session's buffers: whether their history is what it has to be. It is slow,
+//! takes memory as it likes, and shares nothing with the server.
 #![tactic(auto)]
 
 mod entries;

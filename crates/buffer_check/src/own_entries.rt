@@ -1,9 +1,13 @@
 //! Whether a record has the entries that it has to have.
-ghost use Rattle.std.specs.Prelude.{◌≡◌, ◌↔◌, ◌++◌, [], ◌∷◌, IsTrue, not, map, filter, filter_map, take, Some};
+ghost use Rattle.std.specs.Prelude.{◌≡◌, ◌↔◌, ◌++◌, [], ◌∷◌, IsTrue, not, map, filter, filter_map};
+ghost use Rattle.std.specs.Prelude.{take, Some};
 ghost use Rattle.host_record.specs.Command.{opcode};
-ghost use Rattle.host_model.specs.RecordEntries.{entries_for, entries_owed, land_for, lift_at, lift_for, spare};
+ghost use Rattle.host_model.specs.Carrying.{same_op};
+ghost use Rattle.host_model.specs.RecordEntries.{entries_for, entries_owed, land_for, lift_at};
+ghost use Rattle.host_model.specs.RecordEntries.{lift_for, spare, writes_of};
 
 use crate::events::are_equal;
+use host_block::Op;
 use host_model::{MemEvent, SharedBytes, Step, TakenRow, Verdict};
 use host_record::{Opcode, Request, Status};
 
@@ -99,7 +103,8 @@ fn ends(own: &[MemEvent], i: usize, v: u16) -> bool
 
 // Whether a lift at place n and the record's end are left.
 fn lifts_and_ends(own: &[MemEvent], i: usize, r: &Request, n: u32, bytes: &SharedBytes) -> bool
-    ensures { IsTrue result ↔ (own.now ≡ lift_for i r.now n bytes.now ∷ MemEvent.Done i r.now.vmoid ∷ []) }
+    ensures { IsTrue result
+        ↔ (own.now ≡ lift_for i r.now n bytes.now ∷ MemEvent.Done i r.now.vmoid ∷ []) }
 {
     match own {
         [] => false,
@@ -107,9 +112,12 @@ fn lifts_and_ends(own: &[MemEvent], i: usize, r: &Request, n: u32, bytes: &Share
     }
 }
 
-// Whether what is left is the first of these lifts at place n, if there is one, and the record's end.
+// Whether what is left is the first of these lifts at place n, if there is one, and the record's
+// end.
 fn spares_and_ends(own: &[MemEvent], lifts: &[MemEvent], i: usize, r: &Request, n: usize) -> bool
-    ensures { IsTrue result ↔ (own.now ≡ take 1 (filter_map (lift_at n i r.now) lifts.now) ++ MemEvent.Done i r.now.vmoid ∷ []) }
+    ensures { IsTrue result
+        ↔ (own.now
+        ≡ take 1 (filter_map (lift_at n i r.now) lifts.now) ++ MemEvent.Done i r.now.vmoid ∷ []) }
 {
     match lifts {
         [] => ends(own, i, r.vmoid),
@@ -126,7 +134,7 @@ fn spares_and_ends(own: &[MemEvent], lifts: &[MemEvent], i: usize, r: &Request, 
     }
 }
 
-// The same where memory was refused; else the record's end alone.
+// The same where memory was refused before the step on block n; else the record's end alone.
 fn write_ends(
     own: &[MemEvent],
     whole: &[MemEvent],
@@ -135,10 +143,12 @@ fn write_ends(
     r: &Request,
     n: usize,
 ) -> bool
-    ensures { IsTrue result ↔ (own.now ≡ spare status n i r.now whole.now ++ MemEvent.Done i r.now.vmoid ∷ []) }
+    ensures { IsTrue result
+        ↔ (own.now ≡ spare status n i r.now whole.now ++ MemEvent.Done i r.now.vmoid ∷ []) }
 {
     match status {
-        Status::NoMemory => spares_and_ends(own, whole, i, r, n),
+        Status::NoMemory if n < r.length as usize => spares_and_ends(own, whole, i, r, n),
+        Status::NoMemory => ends(own, i, r.vmoid),
         Status::Ok => ends(own, i, r.vmoid),
         Status::NotSupported => ends(own, i, r.vmoid),
         Status::InvalidArgs => ends(own, i, r.vmoid),
@@ -149,7 +159,13 @@ fn write_ends(
     }
 }
 
-// Whether what is left is a lift for each of these steps, and then the end of a write.
+fn writes(step: &Step) -> bool
+    ensures { result ≡ same_op step.now.op Op.Write }
+{
+    step.op == Op::Write
+}
+
+// Whether what is left is a lift for each of these steps that writes, and then the end of a write.
 fn write_goes_on(
     own: &[MemEvent],
     whole: &[MemEvent],
@@ -159,23 +175,34 @@ fn write_goes_on(
     n: usize,
     steps: &[Step],
 ) -> bool
-    ensures { IsTrue result ↔ (own.now ≡ map (λ step. lift_for i r.now step.k step.bytes) steps.now ++ spare status n i r.now whole.now ++ MemEvent.Done i r.now.vmoid ∷ []) }
+    ensures { IsTrue result
+        ↔ (own.now
+        ≡ map (λ step. lift_for i r.now step.k step.bytes) (writes_of steps.now)
+        ++ spare status n i r.now whole.now ++ MemEvent.Done i r.now.vmoid ∷ []) }
 {
     match steps {
         [] => write_ends(own, whole, status, i, r, n),
-        [step, steps @ ..] => match own {
-            [] => false,
-            [event, own @ ..] => {
-                is_lift(event, i, r, step.k, &step.bytes)
-                    && write_goes_on(own, whole, status, i, r, n, steps)
+        [step, steps @ ..] => {
+            if !writes(step) {
+                return write_goes_on(own, whole, status, i, r, n, steps);
             }
-        },
+            match own {
+                [] => false,
+                [event, own @ ..] => {
+                    is_lift(event, i, r, step.k, &step.bytes)
+                        && write_goes_on(own, whole, status, i, r, n, steps)
+                }
+            }
+        }
     }
 }
 
 // Whether what is left is a landing for each of these steps that isn't faulted, and then the end.
 fn read_goes_on(own: &[MemEvent], i: usize, r: &Request, steps: &[Step]) -> bool
-    ensures { IsTrue result ↔ (own.now ≡ map (λ step. land_for i r.now step.k step.bytes) (filter (λ step. not step.faulted) steps.now) ++ MemEvent.Done i r.now.vmoid ∷ []) }
+    ensures { IsTrue result
+        ↔ (own.now
+        ≡ map (λ step. land_for i r.now step.k step.bytes)
+        (filter (λ step. not step.faulted) steps.now) ++ MemEvent.Done i r.now.vmoid ∷ []) }
 {
     match steps {
         [] => ends(own, i, r.vmoid),
@@ -194,7 +221,8 @@ fn read_goes_on(own: &[MemEvent], i: usize, r: &Request, steps: &[Step]) -> bool
 }
 
 fn write_is_whole(own: &[MemEvent], status: Status, i: usize, r: &Request, steps: &[Step]) -> bool
-    ensures { IsTrue result ↔ (own.now ≡ entries_for (Some Opcode.Write) status i r.now steps.now own.now) }
+    ensures { IsTrue result
+        ↔ (own.now ≡ entries_for (Some Opcode.Write) status i r.now steps.now own.now) }
 {
     match own {
         [] => false,
@@ -205,7 +233,8 @@ fn write_is_whole(own: &[MemEvent], status: Status, i: usize, r: &Request, steps
 }
 
 fn read_is_whole(own: &[MemEvent], status: Status, i: usize, r: &Request, steps: &[Step]) -> bool
-    ensures { IsTrue result ↔ (own.now ≡ entries_for (Some Opcode.Read) status i r.now steps.now own.now) }
+    ensures { IsTrue result
+        ↔ (own.now ≡ entries_for (Some Opcode.Read) status i r.now steps.now own.now) }
 {
     match own {
         [] => false,
@@ -229,7 +258,8 @@ fn accepted_is_whole(
     r: &Request,
     steps: &[Step],
 ) -> bool
-    ensures { IsTrue result ↔ (own.now ≡ entries_for (opcode r.now) status i r.now steps.now own.now) }
+    ensures { IsTrue result
+        ↔ (own.now ≡ entries_for (opcode r.now) status i r.now steps.now own.now) }
 {
     match r.opcode() {
         Some(Opcode::Write) => write_is_whole(own, status, i, r, steps),
@@ -243,7 +273,8 @@ fn accepted_is_whole(
 
 /// Whether these are the entries that record i has to have, by its row and its steps.
 pub fn is_whole(own: &[MemEvent], row: TakenRow, i: usize, r: &Request, steps: &[Step]) -> bool
-    ensures { IsTrue result ↔ (own.now ≡ entries_owed row.verdict row.outcome i r.now steps.now own.now) }
+    ensures { IsTrue result
+        ↔ (own.now ≡ entries_owed row.verdict row.outcome i r.now steps.now own.now) }
 {
     match row.verdict {
         Verdict::Accepted => accepted_is_whole(own, row.outcome, i, r, steps),

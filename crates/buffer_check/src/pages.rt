@@ -1,8 +1,9 @@
 //! What pages contain, and whether shows and lifts tell it.
-ghost use Rattle.std.specs.Prelude.{◌≡◌, ◌↔◌, ◌+◌, ◌++◌, [], IsTrue, ◌&&◌, nat_le, nat_lt, replicate, flat_map, filter_map, unwrap_or, IfOk, OnOk};
+ghost use Rattle.std.specs.Prelude.{◌≡◌, ◌↔◌, ◌+◌, ◌++◌, [], IsTrue, ◌&&◌, nat_le, nat_lt};
+ghost use Rattle.std.specs.Prelude.{replicate, flat_map, filter_map, unwrap_or, IfOk, OnOk};
 ghost use Rattle.std.specs.List.{cons_option, range_with_len};
 ghost use Rattle.host_model.specs.Lists.{all_with_before, map_with_before};
-ghost use Rattle.host_model.specs.Pages.{found_by, lifts_page, page_at, put_by, shown_bytes};
+ghost use Rattle.host_model.specs.Pages.{found_by, lifts_page, page_at, page_put_by, shown_bytes};
 
 use host_block::{Bytes, Oom};
 use host_model::{Event, MemEvent};
@@ -32,7 +33,7 @@ fn page_after(
     n: u64,
     page: Bytes,
 ) -> Result<Bytes, Oom>
-    ensures { IfOk result (λ p. p ≡ unwrap_or (put_by size v n event.now) page) }
+    ensures { IfOk result (λ p. p ≡ unwrap_or (page_put_by size v n event.now) page) }
 {
     match event {
         MemEvent::Fill {
@@ -92,7 +93,8 @@ fn pages_from(
     block: u32,
     count: u32,
 ) -> Result<Bytes, Oom>
-    ensures { IfOk result (λ b. b ≡ flat_map (λ n. page_at size history.now v n) (range_with_len block count)) }
+    ensures { IfOk result
+        (λ b. b ≡ flat_map (λ n. page_at size history.now v n) (range_with_len block count)) }
 {
     let mut bytes = Vec::new(alloc);
     for k in 0..count {
@@ -193,7 +195,8 @@ pub fn shows_are_right(
     log: &[Event],
     history: &[MemEvent],
 ) -> Result<bool, Oom>
-    ensures { IfOk result (λ b. IsTrue b ↔ (filter_map shown_bytes log.now ≡ map_with_before (found_by size) history.now)) }
+    ensures { IfOk result (λ b.
+        IsTrue b ↔ (filter_map shown_bytes log.now ≡ map_with_before (found_by size) history.now)) }
 {
     let shown = all_shown(alloc, log)?;
     let found = all_found(alloc, size, history)?;

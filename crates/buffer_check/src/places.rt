@@ -1,5 +1,6 @@
 //! The places of entries.
-ghost use Rattle.std.specs.Prelude.{◌≡◌, ◌==◌, ◌++◌, [], ◌∷◌, if◌then◌else◌, nat_lt, take, drop, IfOk, OnOk, Some};
+ghost use Rattle.std.specs.Prelude.{◌≡◌, ◌==◌, ◌++◌, [], ◌∷◌, if◌then◌else◌, nat_lt, take, drop};
+ghost use Rattle.std.specs.Prelude.{IfOk, OnOk, Some};
 ghost use Rattle.std.specs.List.{list_all};
 ghost use Rattle.std.specs.Option.{option_eq};
 ghost use Rattle.host_model.specs.ClientEntries.{is_client};
@@ -82,7 +83,9 @@ pub fn entry_places(
     history: &[MemEvent],
     r: usize,
 ) -> Result<Vec<usize>, Oom>
-    ensures { IfOk result (λ l. l.items ≡ places (λ e. option_eq ◌==◌ (owner_by rs.now verdicts.now e) (Some r)) history.now) }
+    ensures { IfOk result (λ l.
+        l.items
+        ≡ places (λ e. option_eq ◌==◌ (owner_by rs.now verdicts.now e) (Some r)) history.now) }
 {
     let mut list = Vec::new(alloc);
     for i in 0..history.len() {

@@ -4,7 +4,9 @@ ghost use Rattle.std.specs.List.{list_all, list_any};
 ghost use Rattle.host_model.specs.Lists.{all_with_before, count, same_counts, within_counts};
 ghost use Rattle.host_model.specs.Log.{given, given_id};
 ghost use Rattle.host_model.specs.RecordEntries.{index_of, names_taken};
-ghost use Rattle.host_model.specs.Releases.{buffer_of, comes_before_release, is_close_of, is_pin, is_release_of, pins_before_close, released, released_id};
+ghost use Rattle.host_model.specs.Releases.{buffer_of, comes_before_release, is_close_of, is_pin};
+ghost use Rattle.host_model.specs.Releases.{is_release_of, pins_before_close, released};
+ghost use Rattle.host_model.specs.Releases.{released_id};
 
 use host_model::{Event, MemEvent};
 use std::alloc::{AllocError, Global};

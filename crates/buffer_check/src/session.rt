@@ -1,5 +1,6 @@
 //! Whether the history of a session's buffers is what it has to be.
-ghost use Rattle.std.specs.Prelude.{◌≡◌, ◌↔◌, ◌<◌, ◌+◌, ◌^◌, ℕ, nat_eq, IsTrue, filter, length, IfOk};
+ghost use Rattle.std.specs.Prelude.{◌≡◌, ◌↔◌, ◌<◌, ◌+◌, ◌^◌, ℕ, nat_eq, IsTrue, filter, length};
+ghost use Rattle.std.specs.Prelude.{IfOk};
 ghost use Rattle.std.specs.List.{list_all, range_with_len};
 ghost use Rattle.host_model.specs.Buffers.{IsBufferHistory};
 ghost use Rattle.host_model.specs.ClientEntries.{is_client, told};
@@ -48,7 +49,8 @@ fn ids_count_from(ids: &[u16], n: u64) -> bool
 // Whether ids are given in order from 1.
 #[tactic(auto, using(record_check::proofs::TakingLemmas::counts_is))]
 fn ids_are_in_order(alloc: Global, log: &[Event]) -> Result<bool, AllocError>
-    ensures { IfOk result (λ b. IsTrue b ↔ (given log.now ≡ range_with_len 1 (length (given log.now)))) }
+    ensures { IfOk result
+        (λ b. IsTrue b ↔ (given log.now ≡ range_with_len 1 (length (given log.now)))) }
 {
     let ids = ids_given(alloc, log)?;
     Ok(ids_count_from(&ids, 1))
@@ -71,7 +73,11 @@ fn are_used_rightly(
     rows: &[TakenRow],
     history: &[MemEvent],
 ) -> Result<bool, Oom>
-    ensures { IfOk result (λ b. b ≡ all_with_before (is_used_by (requests log.now) (verdicts log.now part.now (length (sent log.now))) (length rows.now) history.now) log.now) }
+    ensures { IfOk result (λ b.
+        b
+        ≡ all_with_before (is_used_by (requests log.now)
+        (verdicts log.now part.now (length (sent log.now))) (length rows.now) history.now)
+        log.now) }
 {
     let Ok(rs) = requests_sent(alloc, log) else {
         return Err(Oom);
@@ -90,7 +96,10 @@ fn have_entries(
     history: &[MemEvent],
     steps: &[Step],
 ) -> Result<bool, Oom>
-    ensures { IfOk result (λ b. IsTrue b ↔ ((i : ℕ) → i < length rows.now → HasEntriesBy (requests log.now) rows.now steps.now history.now i)) }
+    ensures { IfOk result (λ b.
+        IsTrue b
+        ↔ ((i : ℕ) → i < length rows.now
+        → HasEntriesBy (requests log.now) rows.now steps.now history.now i)) }
 {
     let Ok(rs) = requests_sent(alloc, log) else {
         return Err(Oom);
@@ -116,7 +125,10 @@ pub fn is_buffer_history(
     steps: &[Step],
     finish: Finish,
 ) -> Result<bool, Oom>
-    ensures { IfOk result (λ b. IsTrue b ↔ IsBufferHistory (session_with size part.now log.now rows.now history.now steps.now finish)) }
+    ensures { IfOk result (λ b.
+        IsTrue b
+        ↔ IsBufferHistory
+        (session_with size part.now log.now rows.now history.now steps.now finish)) }
 {
     let told = entries_are_told(alloc, log, history)?;
     let Ok(ordered) = ids_are_in_order(alloc, log) else {

@@ -2,12 +2,12 @@
 ghost use Rattle.std.specs.Prelude.{◌≡◌, ◌↔◌, ◌+◌, ◌<◌, ◌^◌, IsTrue, Some, filter, length};
 ghost use Rattle.host_model.specs.declared.memory.MemEvent.TheVariants.{Attach, Fill, Show};
 ghost use Rattle.host_model.specs.ClientEntries.{told};
-ghost use Rattle.buffer_check.specs.Told.{entry_at, has_entry, sent_by, told_from};
+ghost use Rattle.buffer_check.specs.Told.{entry_at, has_entry, sends_in, told_from};
 
 use host_model::{Event, MemEvent};
 
 fn sends(event: &Event) -> usize
-    ensures { result ≡ sent_by event.now }
+    ensures { result ≡ sends_in event.now }
 {
     match event {
         Event::Sent { .. } => 1,

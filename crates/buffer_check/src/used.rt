@@ -4,7 +4,8 @@ ghost use Rattle.std.specs.List.{list_any};
 ghost use Rattle.host_model.specs.Buffers.{is_in_buffer};
 ghost use Rattle.host_model.specs.Lists.{all_with_before};
 ghost use Rattle.host_model.specs.Verdict.{is_within};
-ghost use Rattle.buffer_check.specs.Owners.{is_answer_by, is_used_by, next_place, was_closed_by, was_released_by};
+ghost use Rattle.buffer_check.specs.Owners.{is_answer_by, is_used_by, next_place, was_closed_by};
+ghost use Rattle.buffer_check.specs.Owners.{was_released_by};
 
 use crate::places::{client_places, release_places};
 use crate::told::told_count;
@@ -80,7 +81,10 @@ fn is_answer(
     inside: bool,
     done: bool,
 ) -> Result<bool, Oom>
-    ensures { IfOk result (λ b. b ≡ (if done then inside else not inside || was_released_by closing n history.now before.now v)) }
+    ensures { IfOk result (λ b.
+        b
+        ≡ (if done then inside
+        else not inside || was_released_by closing n history.now before.now v)) }
 {
     if done {
         return Ok(inside);
@@ -102,7 +106,8 @@ fn is_answer_here(
     count: u32,
     done: bool,
 ) -> Result<bool, Oom>
-    ensures { IfOk result (λ b. b ≡ is_answer_by rs.now verdicts.now n history.now before.now v block count done) }
+    ensures { IfOk result
+        (λ b. b ≡ is_answer_by rs.now verdicts.now n history.now before.now v block count done) }
 {
     let closing = closing_record(v, rs, verdicts);
     let inside = fits(before, v, block, count);
@@ -120,7 +125,8 @@ fn is_used_rightly(
     before: &[Event],
     event: &Event,
 ) -> Result<bool, Oom>
-    ensures { IfOk result (λ b. b ≡ is_used_by rs.now verdicts.now n history.now before.now event.now) }
+    ensures { IfOk result
+        (λ b. b ≡ is_used_by rs.now verdicts.now n history.now before.now event.now) }
 {
     match event {
         Event::Filled {
@@ -149,7 +155,8 @@ fn is_used_rightly(
     }
 }
 
-/// Whether each fill and show was done, or not, as its buffer stood, where the first n records were taken.
+/// Whether each fill and show was done, or not, as its buffer stood, where the first n records were
+/// taken.
 pub fn all_used_rightly(
     alloc: Global,
     rs: &[Request],
@@ -158,7 +165,8 @@ pub fn all_used_rightly(
     history: &[MemEvent],
     log: &[Event],
 ) -> Result<bool, Oom>
-    ensures { IfOk result (λ b. b ≡ all_with_before (is_used_by rs.now verdicts.now n history.now) log.now) }
+    ensures { IfOk result
+        (λ b. b ≡ all_with_before (is_used_by rs.now verdicts.now n history.now) log.now) }
 {
     let mut all = true;
     for i in 0..log.len() {

@@ -10,7 +10,8 @@ use crate::words::Call;
 use crate::wrong::Wrong;
 use std::alloc::{AllocError, Global};
 
-/// Looks at all that a play left. In a play that is not the good one a call was made to fail in turn.
+/// Looks at all that a play left. In a play that is not the good one a call was made to fail in
+/// turn.
 pub fn check(
     alloc: Global,
     case: &Case<'_>,

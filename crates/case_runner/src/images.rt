@@ -68,8 +68,8 @@ fn is_of_image(wanted: &Wanted<'_>) -> bool {
     }
 }
 
-// For each block which of the writes that wait for a sync is durable: the last one for the end, and for the crashes none,
-// the last, the first, and what is drawn from a fixed seed.
+// For each block which of the writes that wait for a sync is durable: the last one for the end, and
+// for the crashes none, the last, the first, and what is drawn from a fixed seed.
 fn picks_of(alloc: Global, number: u32, blocks: u64) -> Result<Vec<u32>, AllocError> {
     let mut picks = Vec::new(alloc);
     let mut drawn = number.wrapping_mul(40_503);

@@ -43,7 +43,8 @@ pub fn judge(alloc: Global, setup: &Setup, call: &Call<'_>, left: &Left) -> Resu
     )
 }
 
-// Whether the output is the text that the words ask for, or where what it goes into failed a beginning of it.
+// Whether the output is the text that the words ask for, or where what it goes into failed a
+// beginning of it.
 fn is_told(alloc: Global, call: &Call<'_>, report: &Report, left: &Left) -> Result<bool, Wrong> {
     let mut sink = MemSink::new(alloc, ROOM, Vec::new(alloc))?;
     let is_whole = if call.has_word("load") {

@@ -1,4 +1,5 @@
-//! Plays the cases that stand on standard input, and prints a line for each: that it went as it wants, or what differs.
+//! Plays the cases that stand on standard input, and prints a line for each: that it went as it
+//! wants, or what differs.
 #![tactic(auto)]
 
 mod case;

@@ -5,17 +5,9 @@ use Rattle.host_block.specs.declared.range.Range.{Range}
 use Rattle.host_record.specs.declared.request.Request.{Request}
 use Rattle.host_record.specs.declared.status.Status.{Status}
 use Rattle.host_record.specs.declared.status.Status.TheVariants as status
-use Rattle.host_model.specs.declared.row.TakenRow.{TakenRow}
+use Rattle.host_model.specs.{TakenRow, Accepted, Refused, is_failure, asked_in, outcome_of, steps_of, IsLawfulSession, IsByFirstCheck, given_before, request_at, requests, row_at, checks, judged, verdict_of}
 use Rattle.host_model.specs.declared.verdict.Verdict.{Verdict}
-use Rattle.host_model.specs.declared.verdict.Verdict.TheVariants.{Accepted, Refused}
-use Rattle.host_model.specs.Answers.{is_failure}
-use Rattle.host_model.specs.Carrying.{asked_in, outcome_of, steps_of}
-use Rattle.host_model.specs.LawfulSession.{IsLawfulSession}
-use Rattle.host_model.specs.Laws.{IsByFirstCheck}
-use Rattle.host_model.specs.Log.{given_before, request_at, requests}
 use Rattle.host_model.specs.Session.{Session}
-use Rattle.host_model.specs.Taking.{row_at}
-use Rattle.host_model.specs.Verdict.{checks, judged, verdict_of}
 use Rattle.host_model.proofs.Checks.{first_check_decides}
 use Rattle.host_model.proofs.Growth.{verdict_at}
 use Rattle.host_model.proofs.ListTests.{both}

@@ -1,7 +1,7 @@
 -- The place after the last flush, and the last change of a block.
 use Rattle.std.proofs.Common.{◌≡◌, ℕ, zero, suc, ◌+◌, ◌<◌, ◌≤◌, Bool, true, false, ◌||◌, cond, List, [], ◌∷◌, Some, refl, ap, ◌∙◌, arith}
 use Rattle.std.specs.List.{list_any, slice_get}
-use Rattle.host_block.specs.Changes.{Change, barrier, changed, changes_block, is_barrier, place_from, put_by}
+use Rattle.host_block.specs.{Change, barrier, changed, changes_block, is_barrier, place_from, put_by}
 use Rattle.host_block.proofs.Places.{any_at}
 
 -- ---- flushes

@@ -3,17 +3,10 @@ use Rattle.std.proofs.Common.{◌≡◌, ℕ, ◌+◌, ◌<◌, ◌==◌, true, 
 use Rattle.std.specs.List.{slice_get}
 use Rattle.std.proofs.lemmas.Bool.{eqb-true}
 use Rattle.host_block.proofs.Places.{from_filter}
-use Rattle.host_record.specs.declared.opcode.Opcode.{Opcode}
-use Rattle.host_record.specs.declared.opcode.Opcode.TheVariants.{Flush}
-use Rattle.host_model.specs.declared.step.Step.{Step}
-use Rattle.host_model.specs.LawfulSession.{IsLawfulSession}
-use Rattle.host_model.specs.Log.{request_at, requests, sending}
-use Rattle.host_model.specs.Order.{HadBefore}
-use Rattle.host_report.specs.declared.report.Report.{Report}
-use Rattle.host_report.specs.declared.session.SessionReport.{SessionReport}
-use Rattle.host_report.specs.Lawful.{IsLawful, session_of}
-use Rattle.crash_law.specs.Ended.{EndedWritesSurvive, HasSurvived, IsDone, changes_blocks}
-use Rattle.crash_law.specs.Survival.{KeepsFlushed, WasFlushed, WroteBlock}
+use Rattle.host_record.specs.{Opcode, Flush}
+use Rattle.host_model.specs.{Step, IsLawfulSession, request_at, requests, sending, HadBefore}
+use Rattle.host_report.specs.{Report, SessionReport, IsLawful, session_of}
+use Rattle.crash_law.specs.{EndedWritesSurvive, HasSurvived, HasSucceeded, changes_blocks, KeepsFlushed, WasFlushed, WroteBlock}
 use Rattle.crash_law.proofs.Steps.{flushing, writing}
 use Rattle.crash_law.proofs.Survival.{session_lawful}
 
@@ -22,7 +15,7 @@ module _ (image : List (List ℕ)) (report : Report) (left : List (List ℕ)) (l
   is_lawful : IsLawfulSession (session_of report e)
   is_lawful = session_lawful image report lawful n e there
 
-  survives : (w f : ℕ) (kind : Opcode) → changes_blocks kind ≡ true → IsDone (session_of report e) w kind → IsDone (session_of report e) f Flush → HadBefore (session_of report e) (sending e.log.items f) w
+  survives : (w f : ℕ) (kind : Opcode) → changes_blocks kind ≡ true → HasSucceeded (session_of report e) w kind → HasSucceeded (session_of report e) f Flush → HadBefore (session_of report e) (sending e.log.items f) w
       → (k : ℕ) → k < (request_at (requests e.log.items) w).length → HasSurvived image report.steps.items e.number w (e.range.first + (request_at (requests e.log.items) w).dev_offset + k) left
   survives w f kind is done flush had k lt =
       let b : ℕ = e.range.first + (request_at (requests e.log.items) w).dev_offset + k in

@@ -4,3 +4,5 @@ pub mod Accepted
 pub mod Steps
 pub mod Survival
 pub mod Ended
+pub mod FlushOrder
+pub mod Forced

@@ -3,7 +3,7 @@ use Rattle.std.proofs.Common.{◌≡◌, ℕ, zero, suc, ◌+◌, ◌<◌, Bool,
 use Rattle.std.specs.Prelude.{Contains}
 use Rattle.std.specs.List.{AllByRecursion, slice_get, slice_index_or}
 use Rattle.host_block.proofs.Places.{within}
-use Rattle.host_model.specs.Lists.{places_from}
+use Rattle.host_model.specs.{places_from}
 
 module _ {A : Type 0} where
   -- what holds of all holds of one

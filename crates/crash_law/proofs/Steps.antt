@@ -1,24 +1,18 @@
 -- A record that ended well made every step that it asked for.
-use Rattle.std.proofs.Common.{◌≡◌, ℕ, zero, suc, ◌+◌, ◌<◌, ◌==◌, Bool, true, false, not, ◌&&◌, cond, List, [], ◌∷◌, Some, refl, sym, ap, ◌∙◌, arith}
+use Rattle.std.proofs.Common.{◌≡◌, ℕ, zero, suc, ◌+◌, ◌<◌, ◌==◌, Bool, true, false, not, ◌&&◌, cond, List, [], ◌∷◌, ◌++◌, length, Some, refl, sym, ap, ◌∙◌, arith}
 use Rattle.std.specs.List.{slice_get}
-use Rattle.host_block.specs.declared.op.Op.{Op}
+use Rattle.std.proofs.lemmas.List.FromFn.{length-map-range_with_len}
+use Rattle.host_block.specs.{Op, changes_block, is_barrier, is_flush, puts_bytes}
 use Rattle.host_block.specs.declared.op.Op.TheVariants as op
 use Rattle.host_block.specs.declared.range.Range.{Range}
-use Rattle.host_block.specs.Changes.{changes_block, is_barrier, is_flush, puts_bytes}
 use Rattle.host_block.proofs.Places.{from_filter, in_map, range_at}
-use Rattle.host_record.specs.declared.opcode.Opcode.{Opcode}
-use Rattle.host_record.specs.declared.opcode.Opcode.TheVariants.{Read, Write, Flush, Trim, Close}
+use Rattle.host_record.specs.{Opcode, Read, Write, Flush, Trim, Close, is_forced}
 use Rattle.host_record.specs.declared.request.Request.{Request}
 use Rattle.host_record.specs.declared.status.Status.TheVariants as status
-use Rattle.host_model.specs.declared.step.Step.{Step}
-use Rattle.host_model.specs.Carrying.{Ask, asked, asked_by, asked_in, carries_out, ended, is_step_for, outcome_of, same_op, steps_of}
-use Rattle.host_model.specs.Changes.{change_of}
-use Rattle.host_model.specs.LawfulSession.{IsLawfulSession}
-use Rattle.host_model.specs.Lists.{below, is_nil}
-use Rattle.host_model.specs.Log.{request_at, requests}
+use Rattle.host_model.specs.{Step, Ask, asked, asked_by, asked_in, carries_out, ended, flush_after, flush_ask, for_each_block, is_step_for, outcome_of, same_op, steps_of, change_of, IsLawfulSession, below, is_nil, request_at, requests}
 use Rattle.host_model.specs.Session.{Session}
 use Rattle.host_model.proofs.ListTests.{both}
-use Rattle.crash_law.specs.Ended.{IsDone, changes_blocks}
+use Rattle.crash_law.specs.{HasSucceeded, changes_blocks}
 use Rattle.crash_law.proofs.Accepted.{accepted_so}
 
 -- ---- all steps
@@ -77,6 +71,18 @@ flush_is op.Read e = absurd (cc)
 flush_is op.Write e = absurd (cc)
 flush_is op.Trim e = absurd (cc)
 
+in_front : {A : Type 0} (xs ys : List A) (n : ℕ) (x : A) → slice_get xs n ≡ Some x → slice_get (xs ++ ys) n ≡ Some x
+in_front [] ys zero x at = absurd (cc)
+in_front [] ys (suc n) x at = absurd (cc)
+in_front (y ∷ xs) ys zero x at = at
+in_front (y ∷ xs) ys (suc n) x at = in_front xs ys n x at
+
+at_end : {A : Type 0} (xs : List A) (n : ℕ) (x : A) → n ≡ length xs → slice_get (xs ++ x ∷ []) n ≡ Some x
+at_end [] zero x is = refl
+at_end [] (suc n) x is = absurd (omega (arith, is))
+at_end (y ∷ xs) zero x is = absurd (omega (arith, is))
+at_end (y ∷ xs) (suc n) x is = at_end xs n x (omega (arith, is))
+
 -- the step that a write or trim asks for on its block k
 asks_for : (kind : Opcode) (range : Range) (r : Request) (k : ℕ) → changes_blocks kind ≡ true → k < r.length
     → (ask : Ask) × (slice_get (asked_by (Some kind) range r) k ≡ Some ask) × (ask.block ≡ range.first + r.dev_offset + k) × ((o : Op) → same_op o ask.op ≡ true → puts_bytes o ≡ true)
@@ -86,7 +92,7 @@ asks_for kind range r k is lt = at kind is
     place = let same : 0 + k ≡ k = omega arith in range_at 0 r.length k lt ∙ ap Some same
 
     at : (o : Opcode) → changes_blocks o ≡ true → (ask : Ask) × (slice_get (asked_by (Some o) range r) k ≡ Some ask) × (ask.block ≡ range.first + r.dev_offset + k) × ((p : Op) → same_op p ask.op ≡ true → puts_bytes p ≡ true)
-    at Write e = (record { k = k; op = op.Write; block = range.first + r.dev_offset + k }, in_map (λ (n : ℕ). record { k = n; op = op.Write; block = range.first + r.dev_offset + n }) (below r.length) k k place, refl, write_puts)
+    at Write e = (record { k = k; op = op.Write; block = range.first + r.dev_offset + k }, in_front (for_each_block op.Write range r) (flush_after r) k (record { k = k; op = op.Write; block = range.first + r.dev_offset + k }) (in_map (λ (n : ℕ). record { k = n; op = op.Write; block = range.first + r.dev_offset + n }) (below r.length) k k place), refl, write_puts)
     at Trim e = (record { k = k; op = op.Trim; block = range.first + r.dev_offset + k }, in_map (λ (n : ℕ). record { k = n; op = op.Trim; block = range.first + r.dev_offset + n }) (below r.length) k k place, refl, trim_puts)
     at Read e = absurd (cc)
     at Flush e = absurd (cc)
@@ -94,7 +100,7 @@ asks_for kind range r k is lt = at kind is
 
 -- ---- the steps of a record that is done
 
-module _ (s : Session) (l : IsLawfulSession s) (i : ℕ) (kind : Opcode) (d : IsDone s i kind) where
+module _ (s : Session) (l : IsLawfulSession s) (i : ℕ) (kind : Opcode) (d : HasSucceeded s i kind) where
   asked_is : asked_in s i ≡ asked_by (Some kind) s.range (request_at (requests s.log) i)
   asked_is = ap (λ v. asked v s.range (request_at (requests s.log) i)) (accepted_so s l i d.taken d.ended) ∙ ap (λ o. asked_by o s.range (request_at (requests s.log) i)) d.asks
 
@@ -124,7 +130,7 @@ pub record IsWriting (s : Session) (i b : ℕ) : Type 0 where
   pub index : (step.index == i) ≡ true
   pub writes : changes_block (change_of step) b ≡ true
 
-pub writing : (s : Session) (l : IsLawfulSession s) (i : ℕ) (kind : Opcode) → changes_blocks kind ≡ true → IsDone s i kind → (k : ℕ) → k < (request_at (requests s.log) i).length
+pub writing : (s : Session) (l : IsLawfulSession s) (i : ℕ) (kind : Opcode) → changes_blocks kind ≡ true → HasSucceeded s i kind → (k : ℕ) → k < (request_at (requests s.log) i).length
     → IsWriting s i (s.range.first + (request_at (requests s.log) i).dev_offset + k)
 writing s l i kind is d k lt =
     let r : Request = request_at (requests s.log) i in
@@ -148,9 +154,21 @@ pub record IsFlushing (s : Session) (i : ℕ) : Type 0 where
   pub index : (step.index == i) ≡ true
   pub flushes : is_barrier (change_of step) ≡ true
 
-pub flushing : (s : Session) (l : IsLawfulSession s) (i : ℕ) → IsDone s i Flush → IsFlushing s i
+pub flushing : (s : Session) (l : IsLawfulSession s) (i : ℕ) → HasSucceeded s i Flush → IsFlushing s i
 flushing s l i d =
     let ask : Ask = record { k = 0; op = op.Flush; block = 0 } in
     let m = made s l i Flush d 0 ask refl in
     let t = last_two (m.step.k == 0) (same_op m.step.op op.Flush) (m.step.block == 0) m.for_ask in
+    record { step = m.step; place = m.place; stands = m.stands; index = m.index; flushes = flushes m.step.faulted (is_flush m.step.op) m.good (flush_is m.step.op t.0) }
+
+-- the flush of a forced write
+pub forcing : (s : Session) (l : IsLawfulSession s) (i : ℕ) → HasSucceeded s i Write → is_forced (request_at (requests s.log) i) ≡ true → IsFlushing s i
+forcing s l i d forced =
+    let r : Request = request_at (requests s.log) i in
+    let blocks = for_each_block op.Write s.range (request_at (requests s.log) i) in
+    let last : (request_at (requests s.log) i).length ≡ length blocks = sym (length-map-range_with_len (λ (k : ℕ). let a : Ask = record { k = k; op = op.Write; block = s.range.first + (request_at (requests s.log) i).dev_offset + k } in a) 0 (request_at (requests s.log) i).length) in
+    let ask : Ask = flush_ask r.length in
+    let at = ap (λ f. slice_get (blocks ++ cond f (flush_ask (request_at (requests s.log) i).length ∷ []) []) (request_at (requests s.log) i).length) forced ∙ at_end blocks (request_at (requests s.log) i).length (flush_ask (request_at (requests s.log) i).length) last in
+    let m = made s l i Write d (request_at (requests s.log) i).length (flush_ask (request_at (requests s.log) i).length) at in
+    let t = last_two (m.step.k == (request_at (requests s.log) i).length) (same_op m.step.op op.Flush) (m.step.block == 0) m.for_ask in
     record { step = m.step; place = m.place; stands = m.stands; index = m.index; flushes = flushes m.step.faulted (is_flush m.step.op) m.good (flush_is m.step.op t.0) }

@@ -4,28 +4,19 @@ use Rattle.std.specs.Prelude.{Contains}
 use Rattle.std.specs.List.{slice_get}
 use Rattle.std.proofs.lemmas.Bool.{eq-eqb, eqb-true, ltb-true}
 use Rattle.std.proofs.lemmas.List.{take_all}
-use Rattle.host_block.specs.declared.op.Op.{Op}
+use Rattle.host_block.specs.{Op, Change, changes_block, is_flush, puts_bytes, put_by, IsCrashImage, block_at}
 use Rattle.host_block.specs.declared.op.Op.TheVariants as op
 use Rattle.host_block.specs.declared.range.Range.{Range}
-use Rattle.host_block.specs.Changes.{Change, changes_block, puts_bytes, put_by}
-use Rattle.host_block.specs.Crash.{IsCrashImage}
-use Rattle.host_block.specs.Disk.{block_at}
 use Rattle.host_block.proofs.Places.{from_take, in_map, in_take}
-use Rattle.host_model.specs.declared.step.Step.{Step}
-use Rattle.host_model.specs.Changes.{change_of, changes_of}
-use Rattle.host_model.specs.LawfulSession.{IsLawfulSession}
-use Rattle.host_model.specs.Laws.{StaysIn}
-use Rattle.host_model.specs.Log.{sending}
-use Rattle.host_model.specs.Order.{HadBefore, step_places}
+use Rattle.host_model.specs.{Step, change_of, changes_of, IsLawfulSession, StaysIn, sending, HadBefore, step_places}
 use Rattle.host_model.proofs.Inside.{steps_stay_inside}
 use Rattle.host_model.proofs.Ordering.{order_is_kept}
-use Rattle.host_report.specs.declared.report.Report.{Report}
-use Rattle.host_report.specs.declared.session.SessionReport.{SessionReport}
-use Rattle.host_report.specs.Lawful.{IsLawful, session_of}
+use Rattle.host_report.specs.{Report, SessionReport, IsLawful, session_of}
 use Rattle.host_report.proofs.Ranges.{ranges_lie_in_image}
-use Rattle.crash_law.specs.Survival.{FlushedWritesSurvive, KeepsFlushed, WasFlushed, WerePutSince, WroteBlock}
+use Rattle.crash_law.specs.{FlushedWritesSurvive, KeepsFlushed, WasFlushed, WerePutSince, WroteBlock}
 use Rattle.crash_law.proofs.Accepted.{all_at}
 use Rattle.crash_law.proofs.Barriers.{barrier_past, last_change}
+use Rattle.crash_law.proofs.FlushOrder.{before_flush}
 use Rattle.crash_law.proofs.Places.{at_rank, from_map, in_places, one_of, rank, rank_order}
 use Rattle.crash_law.proofs.Steps.{last_two}
 
@@ -80,13 +71,13 @@ module _ (image : List (List ℕ)) (report : Report) (lawful : IsLawful image re
 
   -- ---- a crash
 
-  survives : (count : ℕ) (left : List (List ℕ)) → IsCrashImage image (changes_of (take count report.steps.items)) left
-      → (w f : ℕ) → HadBefore (session_of report e) (sending e.log.items f) w → WasFlushed (take count report.steps.items) e.number f
-      → (b place : ℕ) → WroteBlock report.steps.items e.number w b place
+  -- a step before a flush outlives it
+  pub survives_flush : (count : ℕ) (left : List (List ℕ)) → IsCrashImage image (changes_of (take count report.steps.items)) left
+      → (w f : ℕ) (flushed : WasFlushed (take count report.steps.items) e.number f)
+      → (b place : ℕ) → WroteBlock report.steps.items e.number w b place → place < flushed.place
       → WerePutSince (take count report.steps.items) (length (block_at image b)) b place (block_at left b)
-  survives count left crash w f had flushed b place wrote =
+  survives_flush count left crash w f flushed b place wrote early =
       let flush = from_take report.steps.items count flushed.place flushed.step flushed.stands in
-      let early = stands_before w f place flushed.place wrote.step flushed.step had wrote.stands wrote.names flush.0 flushed.names in
       let late = flush.1 in
       let past = barrier_past (changes_of (take count report.steps.items)) flushed.place (change_of flushed.step) (in_map change_of (take count report.steps.items) flushed.place flushed.step flushed.stands) flushed.flushes in
       let version = crash.each b (lies_inside b place w wrote.step wrote.stands wrote.names wrote.writes) in
@@ -103,6 +94,21 @@ module _ (image : List (List ℕ)) (report : Report) (lawful : IsLawful image re
         writes = ap (λ (c : Change). changes_block c b) z.2 ∙ last.writes;
         are = version.is ∙ (last.are ∙ ap (λ (c : Change). put_by (length (block_at image b)) c.op c.bytes) (sym z.2));
       }
+
+  survives : (count : ℕ) (left : List (List ℕ)) → IsCrashImage image (changes_of (take count report.steps.items)) left
+      → (w f : ℕ) → HadBefore (session_of report e) (sending e.log.items f) w → WasFlushed (take count report.steps.items) e.number f
+      → (b place : ℕ) → WroteBlock report.steps.items e.number w b place
+      → WerePutSince (take count report.steps.items) (length (block_at image b)) b place (block_at left b)
+  survives count left crash w f had flushed b place wrote =
+      let flush = from_take report.steps.items count flushed.place flushed.step flushed.stands in
+      survives_flush count left crash w f flushed b place wrote (stands_before w f place flushed.place wrote.step flushed.step had wrote.stands wrote.names flush.0 flushed.names)
+
+  -- what a record wrote stands before a flush of its own
+  pub own_before : (w p q : ℕ) (x y : Step) → slice_get report.steps.items p ≡ Some x → (x.session ≡ e.number) × (x.index ≡ w) → puts_bytes x.op ≡ true
+      → slice_get report.steps.items q ≡ Some y → (y.session ≡ e.number) × (y.index ≡ w) → is_flush y.op ≡ true → p < q
+  own_before w p q x y at names puts bt named flush =
+      rank_order (λ (step : Step). step.session == e.number) report.steps.items p q
+      (before_flush (session_of report e) session_lawful w (own p) (own q) x y (was_taken p w x at names) (own_stands p x at names.0) (eq-eqb x.index w names.1) puts (own_stands q y bt named.0) (eq-eqb y.index w named.1) flush)
 
 pub flushed_writes_survive : FlushedWritesSurvive
 flushed_writes_survive image report lawful count left crash n e there w f had flushed b place wrote = survives image report lawful n e there count left crash w f had flushed b place wrote

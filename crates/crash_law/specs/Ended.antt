@@ -22,25 +22,33 @@ changes_blocks Trim = true
 changes_blocks _ = false
 
 -- record i asked for this, was taken and ended well
-pub record IsDone (s : Session) (i : ℕ) (kind : Opcode) : Type 0 where
+pub record HasSucceeded (s : Session) (i : ℕ) (kind : Opcode) : Type 0 where
   pub taken : i < length s.rows
   pub asks : opcode (request_at (requests s.log) i) ≡ Some kind
   pub ended : (row_at s.rows i).outcome ≡ status.Ok
 
--- Block b, which record i wrote or trimmed, has after a crash the bytes of that step, or those of a later write or trim.
-pub record HasSurvived (image : List (List ℕ)) (steps : List Step) (session i b : ℕ) (after : List (List ℕ)) : Type 0 where
+-- Block b, which record i wrote or trimmed, has after a crash the bytes of that step, or those of a
+-- later write or trim.
+pub record HasSurvived (image : List (List ℕ)) (steps : List Step) (session i b : ℕ)
+    (after : List (List ℕ)) : Type 0 where
   pub place : ℕ
   pub wrote : WroteBlock steps session i b place
   pub left : WerePutSince steps (length (block_at image b)) b place (block_at after b)
 
--- Where the answer to a write or trim was had before a flush was sent, by the log of one client, and both ended well, each of the
--- blocks that it names was written and has survived in this image.
+-- Where the answer to a write or trim was had before a flush was sent, by the log of one client,
+-- and both ended well, each of the blocks that it names was written and has survived in this image.
 abbrev pub KeepsEnded : List (List ℕ) → Report → List (List ℕ) → Type 0
-KeepsEnded image report left = (n : ℕ) (e : SessionReport) → slice_get report.sessions.items n ≡ Some e
-    → (w f : ℕ) (kind : Opcode) → changes_blocks kind ≡ true → IsDone (session_of report e) w kind → IsDone (session_of report e) f Flush → HadBefore (session_of report e) (sending e.log.items f) w
-    → (k : ℕ) → k < (request_at (requests e.log.items) w).length
-    → HasSurvived image report.steps.items e.number w (e.range.first + (request_at (requests e.log.items) w).dev_offset + k) left
+KeepsEnded image report left =
+    (n : ℕ) (e : SessionReport) → slice_get report.sessions.items n ≡ Some e
+    → (w f : ℕ) (kind : Opcode) → changes_blocks kind ≡ true
+    → HasSucceeded (session_of report e) w kind → HasSucceeded (session_of report e) f Flush
+    → HadBefore (session_of report e) (sending e.log.items f) w → (k : ℕ)
+    → k < (request_at (requests e.log.items) w).length
+    → HasSurvived image report.steps.items e.number w
+    (e.range.first + (request_at (requests e.log.items) w).dev_offset + k) left
 
 -- of a lawful report, where what was flushed has survived
 abbrev pub EndedWritesSurvive : Type 0
-EndedWritesSurvive = (image : List (List ℕ)) (report : Report) (left : List (List ℕ)) → IsLawful image report → KeepsFlushed image report report.steps.items left → KeepsEnded image report left
+EndedWritesSurvive =
+    (image : List (List ℕ)) (report : Report) (left : List (List ℕ)) → IsLawful image report
+    → KeepsFlushed image report report.steps.items left → KeepsEnded image report left

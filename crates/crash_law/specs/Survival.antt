@@ -1,4 +1,5 @@
--- What a crash can't take: each step of a write or trim that was answered before a flush was sent, once that flush is done.
+-- What a crash can't take: each step of a write or trim that was answered before a flush was sent,
+-- once that flush is done.
 use Rattle.std.specs.Prelude.{◌≡◌, ℕ, ◌≤◌, true, List, length, slice_get, take, Some}
 use Rattle.host_block.specs.Changes.{changes_block, is_barrier, put_by}
 use Rattle.host_block.specs.Crash.{IsCrashImage}
@@ -39,19 +40,27 @@ pub record WerePutSince (steps : List Step) (size b place : ℕ) (bytes : List �
 
 -- ---- what has survived
 
--- In what a crash leaves once these steps are made has survived what was flushed. Where the answer to record w was had before
--- flush f was sent, by the log of one client, and the flush is among these steps, then each block that a step of w wrote or
--- trimmed, whatever the outcome of w, has the bytes of that step or those of a later one among these.
+-- In what a crash leaves once these steps are made has survived what was flushed. Where the answer
+-- to record w was had before flush f was sent, by the log of one client, and the flush is among
+-- these steps, then each block that a step of w wrote or trimmed, whatever the outcome of w, has
+-- the bytes of that step or those of a later one among these.
 abbrev pub KeepsFlushed : List (List ℕ) → Report → List Step → List (List ℕ) → Type 0
-KeepsFlushed image report made left = (n : ℕ) (e : SessionReport) → slice_get report.sessions.items n ≡ Some e
-    → (w f : ℕ) → HadBefore (session_of report e) (sending e.log.items f) w → WasFlushed made e.number f
-    → (b place : ℕ) → WroteBlock report.steps.items e.number w b place → WerePutSince made (length (block_at image b)) b place (block_at left b)
+KeepsFlushed image report made left =
+    (n : ℕ) (e : SessionReport) → slice_get report.sessions.items n ≡ Some e → (w f : ℕ)
+    → HadBefore (session_of report e) (sending e.log.items f) w → WasFlushed made e.number f
+    → (b place : ℕ) → WroteBlock report.steps.items e.number w b place
+    → WerePutSince made (length (block_at image b)) b place (block_at left b)
 
--- So it is at every moment: once the first so many steps of the report are made, in each image that a crash may leave then.
+-- So it is at every moment: once the first so many steps of the report are made, in each image that
+-- a crash may leave then.
 abbrev pub KeepsAtEachMoment : List (List ℕ) → Report → Type 0
-KeepsAtEachMoment image report = (count : ℕ) (left : List (List ℕ)) → let made = take count report.steps.items in
-    IsCrashImage image (changes_of made) left → KeepsFlushed image report made left
+KeepsAtEachMoment image report =
+    (count : ℕ) (left : List (List ℕ))
+    → let made = take count report.steps.items in IsCrashImage image (changes_of made) left →
+    KeepsFlushed image report made left
 
 -- of every lawful report
 abbrev pub FlushedWritesSurvive : Type 0
-FlushedWritesSurvive = (image : List (List ℕ)) (report : Report) → IsLawful image report → KeepsAtEachMoment image report
+FlushedWritesSurvive =
+    (image : List (List ℕ)) (report : Report) → IsLawful image report
+    → KeepsAtEachMoment image report

@@ -3,4 +3,6 @@
 
 mod laws;
 
-pub use laws::{ended_writes_survive, flushed_writes_survive};
+pub use laws::{
+    ended_writes_survive, flushed_writes_survive, forced_writes_survive, own_flushes_keep,
+};

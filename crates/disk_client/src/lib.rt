@@ -1,5 +1,8 @@
-//! The tests of `host_block` and `host_io`: bytes and lists, and a disk, a source and a sink in memory.
+//! The tests of disks and of what stands on them: objects in memory, files, the cache and the
+//! device.
 #![tactic(auto)]
 
-#[cfg(test)]
-mod tests;
+pub mod cache;
+pub mod device;
+pub mod file;
+pub mod objects;

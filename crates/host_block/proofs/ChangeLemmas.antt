@@ -2,10 +2,7 @@
 use Rattle.std.proofs.Common.{◌≡◌, ℕ, suc, ◌+◌, ◌≤◌, Bool, true, false, List, [], ◌∷◌, ◌++◌, length, refl, sym, ◌∙◌, ap, arith}
 use Rattle.std.specs.Prelude.{not, ◌&&◌, if◌then◌else◌}
 use Rattle.std.proofs.lemmas.List.{take-append-le, take_all, length_push}
-use Rattle.host_block.specs.declared.op.Op.{Op}
-use Rattle.host_block.specs.declared.op.Op.TheVariants.{Read, Write, Trim, Flush}
-use Rattle.host_block.specs.Disk.{block_at}
-use Rattle.host_block.specs.Changes.{Change, puts_bytes, is_flush, changes_block, put_by, changed, content, is_barrier, place_from, barrier}
+use Rattle.host_block.specs.{Op, Read, Write, Trim, Flush, block_at, Change, puts_bytes, is_flush, changes_block, put_by, changed, content, is_barrier, place_from, barrier}
 
 pub changed-append : (size : ℕ) (xs ys : List Change) (b : ℕ) (bytes : List ℕ) → changed size (xs ++ ys) b bytes ≡ changed size ys b (changed size xs b bytes)
 changed-append size [] ys b bytes = refl

@@ -5,7 +5,7 @@ use Rattle.std.proofs.lemmas.Bool.{cases_eq}
 use Rattle.std.proofs.lemmas.Bool.Decides.{nat_tests}
 use Rattle.std.proofs.lemmas.List.{get_or-set_same, get_or-set_other, take-append-drop}
 use Rattle.std.proofs.lemmas.List.Elements.{Contains-append_left, Contains-append_right}
-use Rattle.host_block.specs.Disk.{DiskState, IsOfSize, IsCandidate, IsCrashOf, IsPicked, picked, block_at, overwritten, settled, read_of, added, part_synced, synced, Outcome, done, failed, refused, sync, Leads}
+use Rattle.host_block.specs.{DiskState, IsOfSize, IsCandidate, IsCrashOf, IsPicked, picked, block_at, overwritten, settled, read_of, added, part_synced, synced, Outcome, done, failed, refused, sync, Leads}
 
 abbrev Writes : Type 0
 Writes = List (ℕ × List ℕ)

@@ -3,10 +3,7 @@ use Rattle.std.proofs.Common.{◌≡◌, inl, inr, ⊎_elim, ℕ, ◌+◌, ◌<�
 use Rattle.std.specs.Prelude.{Contains, cond}
 use Rattle.std.proofs.lemmas.List.{length_push}
 use Rattle.std.proofs.lemmas.List.Elements.{Contains-push_cases}
-use Rattle.host_block.specs.Disk.{DiskState, block_at, overwritten, settled, read_of, added, part_synced, synced, IsCandidate, read, write, sync, done, failed, refused}
-use Rattle.host_block.specs.Changes.{Change, content, is_barrier, barrier, put_by}
-use Rattle.host_block.specs.Crash.{IsVersion, Keeps}
-use Rattle.host_block.specs.Laws.{WrittenReads, SyncedIsDurable, RunKeeps, CallKeeps, FlushKeeps, ChangeKeeps, CrashOfKept, CrashInsideCall}
+use Rattle.host_block.specs.{DiskState, block_at, overwritten, settled, read_of, added, part_synced, synced, IsCandidate, read, write, sync, done, failed, refused, Change, content, is_barrier, barrier, put_by, IsVersion, Keeps, WrittenReads, SyncedIsDurable, RunKeeps, CallKeeps, FlushKeeps, ChangeKeeps, CrashOfKept, CrashInsideCall}
 use Rattle.host_block.proofs.DiskLemmas.{read_of-added, read_of-synced, length-settled, block_at-settled, overwritten_cases, Contains-take, Contains-drop}
 use Rattle.host_block.proofs.ChangeLemmas.{barrier_le, barrier_push_flush, barrier_push_other, content_earlier, content_push, barrier_changes}
 

@@ -1,6 +1,6 @@
 -- Lists that begin with others.
 use Rattle.std.proofs.Common.{List, [], ◌++◌, sym, ap, ◌∙◌, append_assoc, append-nil}
-use Rattle.host_block.specs.Lists.{IsPrefix}
+use Rattle.host_block.specs.{IsPrefix}
 
 module _ {A : Type 0} where
   pub prefix_refl : (xs : List A) → IsPrefix xs xs

@@ -1,10 +1,12 @@
 -- A history of changes, and what it makes of an image.
-use Rattle.std.specs.Prelude.{◌≡◌, ℕ, ◌+◌, Bool, true, false, not, ◌&&◌, ◌==◌, IsTrue, List, [], ◌∷◌, length, take, replicate, slice_get, Some, if◌then◌else◌}
+use Rattle.std.specs.Prelude.{◌≡◌, ℕ, ◌+◌, Bool, true, false, not, ◌&&◌, ◌==◌, IsTrue, List, []}
+use Rattle.std.specs.Prelude.{◌∷◌, length, take, replicate, slice_get, Some, if◌then◌else◌}
 use Rattle.host_block.specs.declared.op.Op.{Op}
 use Rattle.host_block.specs.declared.op.Op.TheVariants.{Read, Write, Trim, Flush}
 use Rattle.host_block.specs.Disk.{block_at}
 
--- One entry of a history: what was done, to which block, with which bytes, and whether the disk failed.
+-- One entry of a history: what was done, to which block, with which bytes, and whether the disk
+-- failed.
 pub record Change : Type 0 where
   pub op : Op
   pub block : ℕ
@@ -46,15 +48,19 @@ put_by size Flush bytes = bytes
 -- what these changes, in order, make of block b of this size, where these bytes stood there
 abbrev pub changed : ℕ → List Change → ℕ → List ℕ → List ℕ
 changed size [] b bytes = bytes
-changed size (c ∷ cs) b bytes = changed size cs b (if changes_block c b then put_by size c.op c.bytes else bytes)
+changed size (c ∷ cs) b bytes =
+    changed size cs b (if changes_block c b then put_by size c.op c.bytes else bytes)
 
 -- the content of block b after the first p changes
 abbrev pub content : List (List ℕ) → List Change → ℕ → ℕ → List ℕ
-content image history p b = changed (length (block_at image b)) (take p history) b (block_at image b)
+content image history p b =
+    changed (length (block_at image b)) (take p history) b (block_at image b)
 
 -- each read that didn't fail gave the content at its place
 abbrev pub IsLegal : List (List ℕ) → List Change → Type 0
-IsLegal image history = (p : ℕ) (c : Change) → slice_get history p ≡ Some c → IsTrue (is_read c.op && not c.faulted) → c.bytes ≡ content image history p c.block
+IsLegal image history =
+    (p : ℕ) (c : Change) → slice_get history p ≡ Some c → IsTrue (is_read c.op && not c.faulted)
+    → c.bytes ≡ content image history p c.block
 
 -- whether it is a flush that didn't fail
 abbrev pub is_barrier : Change → Bool

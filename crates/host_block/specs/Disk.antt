@@ -1,6 +1,7 @@
 -- The model of a disk: its state, and what its calls and a crash make of it.
 use Prim.Native.Nat.{zero, suc}
-use Rattle.std.specs.Prelude.{◌≡◌, ◌⊎◌, ◌<◌, ◌==◌, ℕ, List, [], ◌∷◌, ◌++◌, length, take, drop, All, Contains, slice_index_or, slice_set, if◌then◌else◌}
+use Rattle.std.specs.Prelude.{◌≡◌, ◌⊎◌, ◌<◌, ◌==◌, ℕ, List, [], ◌∷◌, ◌++◌, length, take, drop, All}
+use Rattle.std.specs.Prelude.{Contains, slice_index_or, slice_set, if◌then◌else◌}
 
 -- all blocks of an image have this length
 abbrev pub IsImage : ℕ → List (List ℕ) → Type 0
@@ -39,7 +40,8 @@ added s b bytes = record { durable = s.durable; pending = s.pending ++ (b, bytes
 
 -- with the first n pending writes made durable
 abbrev pub part_synced : DiskState → ℕ → DiskState
-part_synced s n = record { durable = settled s.durable (take n s.pending); pending = drop n s.pending }
+part_synced s n =
+    record { durable = settled s.durable (take n s.pending); pending = drop n s.pending }
 
 -- with all pending writes made durable
 abbrev pub synced : DiskState → DiskState
@@ -81,11 +83,13 @@ pub record IsCrashOf (s : DiskState) (image : List (List ℕ)) : Type 0 where
   pub blocks : length image ≡ length s.durable
   pub each : (b : ℕ) → b < length s.durable → IsCandidate s b (block_at image b)
 
--- A crash inside a call that leads from the first state to the second may leave what one before or one after it may leave.
+-- A crash inside a call that leads from the first state to the second may leave what one before or
+-- one after it may leave.
 abbrev pub IsCrashInside : DiskState → DiskState → List (List ℕ) → Type 0
 IsCrashInside old new image = IsCrashOf old image ⊎ IsCrashOf new image
 
--- the n-th of these writes to block b, counted from 1, and the last where they are fewer; the bytes given where n is 0 or there is none
+-- the n-th of these writes to block b, counted from 1, and the last where they are fewer; the bytes
+-- given where n is 0 or there is none
 abbrev pub picked : List (ℕ × List ℕ) → ℕ → ℕ → List ℕ → List ℕ
 picked [] b n bytes = bytes
 picked (w ∷ ws) b zero bytes = bytes
@@ -94,7 +98,8 @@ picked (w ∷ ws) b (suc n) bytes = if w.0 == b then picked ws b n w.1 else pick
 -- The crash image that these picks choose, a pick for each block, 0 where there is none.
 pub record IsPicked (s : DiskState) (picks : List ℕ) (image : List (List ℕ)) : Type 0 where
   pub blocks : length image ≡ length s.durable
-  pub each : (b : ℕ) → b < length s.durable → block_at image b ≡ picked s.pending b (slice_index_or picks b 0) (block_at s.durable b)
+  pub each : (b : ℕ) → b < length s.durable
+      → block_at image b ≡ picked s.pending b (slice_index_or picks b 0) (block_at s.durable b)
 
 -- Every block, durable or pending, has this size, and every pending write lies on the disk.
 pub record IsOfSize (blocks size : ℕ) (s : DiskState) : Type 0 where

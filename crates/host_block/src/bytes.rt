@@ -1,5 +1,6 @@
 // A piece of bytes of fixed length, which contracts see as a list.
-ghost use Rattle.std.specs.Prelude.{◌≡◌, ◌++◌, ℕ, List, [], length, take, drop, replicate, IfOk, slice_get};
+ghost use Rattle.std.specs.Prelude.{◌≡◌, ◌++◌, ℕ, List, [], length, take, drop, replicate, IfOk};
+ghost use Rattle.std.specs.Prelude.{slice_get};
 ghost use Rattle.std.specs.Option.{option_copied};
 ghost use Rattle.std.specs.Borrow.{Lends, Array, sem};
 ghost use Rattle.std.specs.Borrow.{u8 as byte};
@@ -72,7 +73,8 @@ impl Bytes {
     }
 
     pub fn as_mut_slice(&mut self) -> &mut [u8]
-        ensures* writes_back { sem 𝓛 (Lends the_row (Array byte 0) self.entry result (λ w. take (length self.old) (w ++ drop (length w) self.old))) }
+        ensures* writes_back { sem 𝓛 (Lends the_row (Array byte 0) self.entry result
+            (λ w. take (length self.old) (w ++ drop (length w) self.old))) }
         ensures value { result.now ≡ self.old }
     {
         &mut self.bytes

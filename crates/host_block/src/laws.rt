@@ -1,7 +1,10 @@
 // Laws over the definitions, each the contract of a function that does nothing.
-ghost use Rattle.host_block.specs.Laws.{WrittenReads, SyncedReads, SyncedIsDurable, PickedIsCrash, CallKeeps, RunKeeps, FlushKeeps, ChangeKeeps, CrashOfKept, CrashInsideCall};
+ghost use Rattle.host_block.specs.Laws.{WrittenReads, SyncedReads, SyncedIsDurable, PickedIsCrash};
+ghost use Rattle.host_block.specs.Laws.{CallKeeps, RunKeeps, FlushKeeps, ChangeKeeps, CrashOfKept};
+ghost use Rattle.host_block.specs.Laws.{CrashInsideCall};
 
-/// After a write that succeeds a read of its block gives its bytes, and one of any other block what it gave before.
+/// After a write that succeeds a read of its block gives its bytes, and one of any other block what
+/// it gave before.
 pub fn written_reads()
     ensures { WrittenReads }
 {}
@@ -21,7 +24,8 @@ pub fn picked_is_crash()
     ensures { PickedIsCrash }
 {}
 
-/// A read, a sync, or a write of the content after the whole history keeps the history, however it ends.
+/// A read, a sync, or a write of the content after the whole history keeps the history, however it
+/// ends.
 pub fn call_keeps()
     ensures { CallKeeps }
 {}
@@ -31,12 +35,14 @@ pub fn run_keeps()
     ensures { RunKeeps }
 {}
 
-/// Where reads give the content after the whole history, a sync that succeeds keeps it with a flush more.
+/// Where reads give the content after the whole history, a sync that succeeds keeps it with a flush
+/// more.
 pub fn flush_keeps()
     ensures { FlushKeeps }
 {}
 
-/// A state that keeps the history also keeps it with any change more that is no flush, or a failed one.
+/// A state that keeps the history also keeps it with any change more that is no flush, or a failed
+/// one.
 pub fn change_keeps()
     ensures { ChangeKeeps }
 {}

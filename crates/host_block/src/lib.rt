@@ -1,5 +1,5 @@
-//! Sizes and ranges of blocks, the lists that every crate shares, and the model of a disk: what calls, crashes and a
-//! history of changes make of its blocks.
+//! Sizes and ranges of blocks, the lists that every crate shares, and the model of a disk: what
+//! calls, crashes and a history of changes make of its blocks.
 #![tactic(auto)]
 
 mod bytes;

@@ -1,12 +1,14 @@
 // A list that takes its memory ahead, so that adding an element takes none.
-ghost use Rattle.std.specs.Prelude.{◌≡◌, ◌+◌, ◌<◌, [], ◌∷◌, ◌++◌, length, max, IfOk, OnOk, OnErr, IsTrue, ◌↔◌, slice_get, option_copied};
+ghost use Rattle.std.specs.Prelude.{◌≡◌, ◌+◌, ◌<◌, [], ◌∷◌, ◌++◌, length, max, IfOk, OnOk, OnErr};
+ghost use Rattle.std.specs.Prelude.{IsTrue, ◌↔◌, slice_get, option_copied};
 ghost use Rattle.host_block.specs.Room.{spare_of};
 
 use crate::Oom;
 use std::alloc::Global;
 use std::marker::Model;
 
-/// A list of the elements that were pushed, seen as these and the number of elements that it has room for in all.
+/// A list of the elements that were pushed, seen as these and the number of elements that it has
+/// room for in all.
 #[derive(Drop)]
 pub struct ReservedList<T> {
     entries: Vec<T>,
@@ -21,7 +23,8 @@ impl<T> Model for ReservedList<T> {
 
     ghost view = { λ l. record { items = l.entries.items; room = l.room } };
 
-    ghost invariant = { λ l. (length l.entries.items ≤ l.room) × (l.room ≤ vec_capacity l.entries) };
+    ghost invariant = { λ l.
+        (length l.entries.items ≤ l.room) × (l.room ≤ vec_capacity l.entries) };
 }
 
 impl<T> ReservedList<T> {
@@ -49,7 +52,8 @@ impl<T> ReservedList<T> {
 
     /// Makes room for `n` elements more than there are.
     pub fn reserve(&mut self, n: u64) -> Result<(), Oom>
-        ensures ok { OnOk result (self.new ≡ record self.old { room = max self.old.room (length self.old.items + n) }) }
+        ensures ok { OnOk result (self.new
+            ≡ record self.old { room = max self.old.room (length self.old.items + n) }) }
         ensures err { OnErr result (self.new ≡ self.old) }
     {
         if self.entries.reserve(n as usize).is_err() {

@@ -1,20 +1,16 @@
 -- What a cache keeps when its disk was called.
 use Rattle.std.proofs.Common.{◌≡◌, ℕ, ◌<◌, length, arith, Option, Some, List, [], ◌∷◌, IsTrue, sym, ◌∙◌, subst}
-use Rattle.host_block.specs.Disk.{DiskState, Outcome, DiskCall, read, write, sync, Leads, LeadAll}
-use Rattle.host_io.specs.Disks.{Shape}
+use Rattle.host_block.specs.{DiskState, Outcome, DiskCall, read, write, sync, Leads, LeadAll}
+use Rattle.host_io.specs.{Shape}
 use Rattle.host_io.specs.declared.disk.Disk as disk
-use Rattle.host_cache.specs.Calls.{victim_writes, after_victim}
-use Rattle.host_cache.specs.Held.{Held, cached}
-use Rattle.host_cache.specs.Kept.{IsKept, AreClean}
+use Rattle.host_cache.specs.{victim_writes, after_victim, cached, IsCacheKept, AreClean, held_of, content_of, Cache, Victim}
+use Rattle.host_cache.specs.Held.{Held}
 use Rattle.host_cache.specs.Made.{Made}
-use Rattle.host_cache.specs.Seen.{held_of, content_of}
-use Rattle.host_cache.specs.declared.cache.Cache.{Cache}
-use Rattle.host_cache.specs.declared.line.Victim.{Victim}
 use Rattle.host_cache.proofs.ListLemmas.{clean_synced, content_synced}
 use Rattle.host_cache.proofs.StepLemmas.{kept_victim, clean_victim, content_victim}
 
-pub kept_on : (old new : Shape) (held : Held) → new ≡ old → IsKept old.blocks old.size held → IsKept new.blocks new.size held
-kept_on old new held same kept = subst (λ (sh : Shape). IsKept sh.blocks sh.size held) (sym same) kept
+pub kept_on : (old new : Shape) (held : Held) → new ≡ old → IsCacheKept old.blocks old.size held → IsCacheKept new.blocks new.size held
+kept_on old new held same kept = subst (λ (sh : Shape). IsCacheKept sh.blocks sh.size held) (sym same) kept
 
 module _ {D : Type 0} {g : disk.Ghosts D} where
   pub told_before : (calls : List DiskCall) (old new : D) → Made g calls old new → IsTrue (g.shape new).tells → IsTrue (g.shape old).tells
@@ -26,7 +22,7 @@ module _ {D : Type 0} {g : disk.Ghosts D} where
         subst (λ (w : Option Victim). LeadAll (victim_writes w o) (g.state cache.disk) (g.state new)) (sym is)
         (subst (λ (x : List ℕ). LeadAll (write v.block x o ∷ []) (g.state cache.disk) (g.state new)) same (made.state told))
 
-    pub kept_written : IsKept (g.shape new).blocks (g.shape new).size (after_victim o (held_of cache))
+    pub kept_written : IsCacheKept (g.shape new).blocks (g.shape new).size (after_victim o (held_of cache))
     kept_written = kept_on (g.shape cache.disk) (g.shape new) (after_victim o (held_of cache)) made.shape (kept_victim (g.shape cache.disk).blocks (g.shape cache.disk).size o (held_of cache) cache.kept)
 
     pub clean_written : IsTrue (g.shape new).tells → AreClean (g.state new) cache.lines.entries

@@ -5,12 +5,8 @@ use Rattle.std.specs.Map.{set_value}
 use Rattle.std.proofs.lemmas.Bool.{cases_eq, cases_lt, eq-eqb, lt-ltb, le-ltb}
 use Rattle.std.proofs.lemmas.Bool.Decides.{nat_tests}
 use Rattle.std.proofs.lemmas.List.{length-map}
-use Rattle.host_block.specs.Disk.{DiskState, read_of, Outcome, done, write, Leads}
-use Rattle.host_cache.specs.Held.{line_at, over_line, over_victim, cached}
-use Rattle.host_cache.specs.Calls.{clean_line, is_dirty, dirty_at, dirty_below, cleaned_below, cleaned_at}
-use Rattle.host_cache.specs.Kept.{AreApart, IsBlock, IsKept, AreClean}
-use Rattle.host_cache.specs.declared.line.Line.{Line}
-use Rattle.host_cache.specs.declared.line.Victim.{Victim}
+use Rattle.host_block.specs.{DiskState, read_of, Outcome, done, write, Leads}
+use Rattle.host_cache.specs.{line_at, over_line, over_victim, cached, clean_line, is_dirty, dirty_at, dirty_below, cleaned_below, cleaned_at, AreApart, IsBlock, IsCacheKept, AreClean, Line, Victim}
 use Rattle.host_cache.proofs.EntryLemmas.{Entries, at_here, at_other, each_line, at_each, apart_each}
 use Rattle.host_cache.proofs.StepLemmas.{holding, read_other, read_same}
 
@@ -187,7 +183,7 @@ mapped f (Some l) line is = let same : f l ≡ line = cc in (l, refl, same)
 stood : (b : ℕ) (es : Entries) (k : ℕ) (line : Line) → line_at (cleaned_at b es) k ≡ Some line → (l : Line) × (line_at es k ≡ Some l) × (at_line b k l ≡ line)
 stood b es k line at = mapped (at_line b k) (line_at es k) line (sym (at_each (at_line b) es k) ∙ at)
 
-pub kept_cleaned : (blocks size b : ℕ) (lines : Entries) (victim : Option Victim) → IsKept blocks size (holding lines victim) → IsKept blocks size (holding (cleaned_at b lines) victim)
+pub kept_cleaned : (blocks size b : ℕ) (lines : Entries) (victim : Option Victim) → IsCacheKept blocks size (holding lines victim) → IsCacheKept blocks size (holding (cleaned_at b lines) victim)
 kept_cleaned blocks size b lines victim kept = record {
   apart = apart_each (at_line b) lines kept.apart;
   room = let long : length (cleaned_at b lines) ≡ length lines = length-map lines (λ e. (e.0, at_line b e.0 e.1)) in omega (arith, long, kept.room);

@@ -1,17 +1,11 @@
 -- The dirty entries are written one by one, by rising block number.
 use Rattle.std.proofs.Common.{◌≡◌, inl, inr, ℕ, ◌+◌, ◌<◌, ◌≤◌, true, false, Option, Some, None, List, ◌++◌, refl, sym, ◌∙◌, ap, subst}
 use Rattle.std.proofs.lemmas.List.{map-append}
-use Rattle.host_block.specs.Disk.{Outcome, done, DiskCall, write}
+use Rattle.host_block.specs.{Outcome, done, DiskCall, write}
 use Rattle.host_io.specs.declared.disk.Disk as disk
-use Rattle.host_cache.specs.Held.{Held, line_at}
-use Rattle.host_cache.specs.Calls.{is_dirty, dirty_at, dirty_below, write_calls, cleaned_below, cleaned_at, Cleans, WritesDirty}
+use Rattle.host_cache.specs.Held.{Held}
+use Rattle.host_cache.specs.{line_at, is_dirty, dirty_at, dirty_below, write_calls, cleaned_below, cleaned_at, Cleans, WritesDirty, cache_error_outcome, first_dirty, disk_of, shape_of, held_of, Runs, Cache, CacheError, Line}
 use Rattle.host_cache.specs.Made.{Made}
-use Rattle.host_cache.specs.Outcomes.{outcome_of_error}
-use Rattle.host_cache.specs.Scan.{first_dirty}
-use Rattle.host_cache.specs.Seen.{disk_of, shape_of, held_of, Runs}
-use Rattle.host_cache.specs.declared.cache.Cache.{Cache}
-use Rattle.host_cache.specs.declared.error.CacheError.{CacheError}
-use Rattle.host_cache.specs.declared.line.Line.{Line}
 use Rattle.host_cache.proofs.EntryLemmas.{Entries}
 use Rattle.host_cache.proofs.StepLemmas.{holding}
 use Rattle.host_cache.proofs.CleanLemmas.{NoneDirty, dirty_same, dirty_more, cleaned_same, cleaned_step, cleaned_above, cleaned_none}
@@ -68,9 +62,9 @@ module _ {D : Type 0} {g : disk.Ghosts D} where
         }
 
     -- the write of an entry doesn't succeed
-    pub runs_stopped : (b : ℕ) (e : CacheError) (n : Cache D g) → first_dirty from (held_of m).lines ≡ Some b → Runs (Cleans b) m (outcome_of_error e) n → Runs (WritesDirty (shape_of old).blocks) old (outcome_of_error e) n
+    pub runs_stopped : (b : ℕ) (e : CacheError) (n : Cache D g) → first_dirty from (held_of m).lines ≡ Some b → Runs (Cleans b) m (cache_error_outcome e) n → Runs (WritesDirty (shape_of old).blocks) old (cache_error_outcome e) n
     runs_stopped b e n first runs =
-        let o = outcome_of_error e in
+        let o = cache_error_outcome e in
         let lines = (held_of old).lines in
         let found = first_some from (held_of m).lines b m.kept.apart first in
         let none = none_before b found.2 in

@@ -4,9 +4,7 @@ use Rattle.std.specs.Prelude.{nat_eq, cond, slice_get, option_map}
 use Rattle.std.specs.Map.{remove_entry}
 use Rattle.std.proofs.lemmas.Bool.{cases_eq}
 use Rattle.std.proofs.lemmas.Bool.Decides.{nat_tests}
-use Rattle.host_cache.specs.Held.{line_at, in_front}
-use Rattle.host_cache.specs.Kept.{AreApart}
-use Rattle.host_cache.specs.declared.line.Line.{Line}
+use Rattle.host_cache.specs.{line_at, in_front, AreApart, Line}
 
 abbrev pub Entries : Type 0
 Entries = List (ℕ × Line)

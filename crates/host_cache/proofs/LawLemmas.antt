@@ -3,18 +3,11 @@ use Rattle.std.proofs.Common.{◌≡◌, ◌≢◌, inl, inr, ℕ, zero, suc, �
 use Rattle.std.specs.Prelude.{if◌then◌else◌}
 use Rattle.std.proofs.lemmas.Bool.{cases_eq}
 use Rattle.std.proofs.lemmas.List.{map-append}
-use Rattle.host_block.specs.Disk.{DiskState, read_of, Outcome, done, failed, refused, DiskCall, write, sync, Leads, LeadAll}
-use Rattle.host_block.specs.Changes.{Change, content, is_barrier}
-use Rattle.host_block.specs.Crash.{Keeps, IsCurrent}
-use Rattle.host_block.specs.Laws.{AreFaithful, LeadThrough}
+use Rattle.host_block.specs.{DiskState, read_of, Outcome, done, failed, refused, DiskCall, write, sync, Leads, LeadAll, Change, content, is_barrier, Keeps, IsCurrent, AreFaithful, LeadThrough}
 use Rattle.host_block.proofs.DiskLemmas.{put_here}
 use Rattle.host_block.proofs.KeptLemmas.{run_keeps_proof, flush_keeps_proof}
-use Rattle.host_cache.specs.Held.{Held, line_at, over_line, over_victim, cached}
-use Rattle.host_cache.specs.Calls.{Rule, Then, victim_writes, after_victim, WritesVictim, with_room, MakesRoom, PutsInFront, ReadsDisk, GivesFound, Gives, IsRead, RoomUnless, MakesRoomFor, Prepares, IsWrite, clean_line, dirty_line, dirty_at, dirty_below, write_calls, WritesDirty, Syncs, IsFlush}
-use Rattle.host_cache.specs.Kept.{AreClean}
-use Rattle.host_cache.specs.Laws.{IsOver, ReadSurvives, WriteSurvives, FlushSurvives, FlushIsKept}
-use Rattle.host_cache.specs.declared.line.Line.{Line}
-use Rattle.host_cache.specs.declared.line.Victim.{Victim}
+use Rattle.host_cache.specs.Held.{Held}
+use Rattle.host_cache.specs.{line_at, over_line, over_victim, cached, Rule, Then, victim_writes, after_victim, WritesVictim, with_room, MakesRoom, PutsInFront, ReadsDisk, GivesFound, Gives, IsRead, RoomUnless, MakesRoomFor, Prepares, IsWrite, clean_line, dirty_line, dirty_at, dirty_below, write_calls, WritesDirty, Syncs, IsFlush, AreClean, IsHeldOver, ReadSurvives, WriteSurvives, FlushSurvives, FlushIsKept, Line, Victim}
 use Rattle.host_cache.proofs.EntryLemmas.{Entries}
 use Rattle.host_cache.proofs.StepLemmas.{holding, read_other, read_same, kept_victim, clean_victim, content_victim, kept_room, clean_room, content_room}
 
@@ -35,7 +28,7 @@ module _ (image : List (List ℕ)) (history : List Change) (size : ℕ) where
   along calls s t keeps faithful lead = run_keeps_proof image history calls s t keeps faithful lead
 
   abbrev Over : Held → DiskState → Type 0
-  Over held s = IsOver image history size held s
+  Over held s = IsHeldOver image history size held s
 
   -- faithful calls that lead to another cache over another state
   record Carries (calls : List DiskCall) (new : Held) (t : DiskState) : Type 0 where

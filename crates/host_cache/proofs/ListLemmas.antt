@@ -2,16 +2,10 @@
 use Rattle.std.proofs.Common.{◌≡◌, ◌≢◌, ◌⊎◌, inl, ℕ, ◌<◌, Bool, true, false, Option, Some, None, Result, Ok, Err, List, [], ◌∷◌, length, refl, sym, ◌∙◌, ap, subst}
 use Rattle.std.specs.Prelude.{nat_eq, MatchOption, OnOk, OnErr, if◌then◌else◌}
 use Rattle.lru.specs.LruCache.{promoted}
-use Rattle.host_block.specs.Disk.{DiskState, read_of, Outcome, done, failed, refused, DiskCall, write, sync, Leads, LeadAll}
+use Rattle.host_block.specs.{DiskState, read_of, Outcome, done, failed, refused, DiskCall, write, sync, Leads, LeadAll}
 use Rattle.host_block.proofs.DiskLemmas.{read_of-sync}
-use Rattle.host_cache.specs.Held.{Held, line_at, over_line, over_victim, cached}
-use Rattle.host_cache.specs.Calls.{put_lines, clean_lines, is_dirty, dirty_at, write_calls, Finds}
-use Rattle.host_cache.specs.Kept.{IsBlock, IsKept, AreClean}
-use Rattle.host_cache.specs.Outcomes.{outcome_of, outcome_of_error}
-use Rattle.host_cache.specs.declared.error.CacheError.{CacheError}
-use Rattle.host_cache.specs.declared.error.CacheError.TheVariants.{Disk, Oom}
-use Rattle.host_cache.specs.declared.line.Line.{Line}
-use Rattle.host_cache.specs.declared.line.Victim.{Victim}
+use Rattle.host_cache.specs.Held.{Held}
+use Rattle.host_cache.specs.{line_at, over_line, over_victim, cached, put_lines, clean_lines, is_dirty, dirty_at, write_calls, Finds, IsBlock, IsCacheKept, AreClean, cache_outcome, cache_error_outcome, CacheError, Disk, Oom, Line, Victim}
 use Rattle.host_cache.specs.declared.line.TheConstants.{ENTRIES}
 use Rattle.host_cache.proofs.EntryLemmas.{Entries}
 use Rattle.host_cache.proofs.LruLemmas.{promoted_found, promoted_absent}
@@ -20,13 +14,13 @@ use Rattle.host_cache.proofs.CleanLemmas.{kept_cleaned, clean_cleaned, clean_tri
 
 -- ---- a block that is looked for
 
-kept_moved : (blocks size b : ℕ) (held : Held) (o : Option Line) → line_at held.lines b ≡ o → IsKept blocks size held → held.victim ≡ None → IsKept blocks size (holding (promoted (nat_eq b) held.lines) held.victim)
-kept_moved blocks size b held None at kept empty = subst (λ (l : Entries). IsKept blocks size (holding l held.victim)) (sym (promoted_absent held.lines b at)) kept
+kept_moved : (blocks size b : ℕ) (held : Held) (o : Option Line) → line_at held.lines b ≡ o → IsCacheKept blocks size held → held.victim ≡ None → IsCacheKept blocks size (holding (promoted (nat_eq b) held.lines) held.victim)
+kept_moved blocks size b held None at kept empty = subst (λ (l : Entries). IsCacheKept blocks size (holding l held.victim)) (sym (promoted_absent held.lines b at)) kept
 kept_moved blocks size b held (Some line) at kept empty =
-    subst (λ (l : Entries). IsKept blocks size (holding l held.victim)) (sym (promoted_found held.lines b line at))
+    subst (λ (l : Entries). IsCacheKept blocks size (holding l held.victim)) (sym (promoted_found held.lines b line at))
     (kept_put blocks size b line held kept empty (kept.lines b line at) (inl (λ none. let wrong : Some line ≡ None = sym at ∙ none in cc)))
 
-pub kept_promoted : (blocks size b : ℕ) (held : Held) → IsKept blocks size held → held.victim ≡ None → IsKept blocks size (holding (promoted (nat_eq b) held.lines) held.victim)
+pub kept_promoted : (blocks size b : ℕ) (held : Held) → IsCacheKept blocks size held → held.victim ≡ None → IsCacheKept blocks size (holding (promoted (nat_eq b) held.lines) held.victim)
 kept_promoted blocks size b held kept empty = kept_moved blocks size b held (line_at held.lines b) refl kept empty
 
 clean_moved : (s : DiskState) (b : ℕ) (lines : Entries) (o : Option Line) → line_at lines b ≡ o → AreClean s lines → AreClean s (promoted (nat_eq b) lines)
@@ -55,8 +49,8 @@ finds_promoted b held found into m = finds_moved b held found into (line_at held
 
 -- ---- an entry that is put
 
-pub kept_put_lines : (o : Outcome) (blocks size b : ℕ) (line : Line) (held : Held) → IsKept blocks size held → held.victim ≡ None → IsBlock blocks size b line.bytes → (line_at held.lines b ≢ None) ⊎ (length held.lines < ENTRIES)
-    → IsKept blocks size (holding (put_lines o b line held.lines) held.victim)
+pub kept_put_lines : (o : Outcome) (blocks size b : ℕ) (line : Line) (held : Held) → IsCacheKept blocks size held → held.victim ≡ None → IsBlock blocks size b line.bytes → (line_at held.lines b ≢ None) ⊎ (length held.lines < ENTRIES)
+    → IsCacheKept blocks size (holding (put_lines o b line held.lines) held.victim)
 kept_put_lines done blocks size b line held kept empty is_block room = kept_put blocks size b line held kept empty is_block room
 kept_put_lines failed blocks size b line held kept empty is_block room = kept
 kept_put_lines refused blocks size b line held kept empty is_block room = kept
@@ -66,22 +60,22 @@ clean_put_lines done s b line lines new clean = clean_put s b line lines new cle
 clean_put_lines failed s b line lines new clean = clean
 clean_put_lines refused s b line lines new clean = clean
 
-pub put_error : (e : CacheError) (b : ℕ) (line : Line) (lines : Entries) → put_lines (outcome_of_error e) b line lines ≡ lines
+pub put_error : (e : CacheError) (b : ℕ) (line : Line) (lines : Entries) → put_lines (cache_error_outcome e) b line lines ≡ lines
 put_error Disk b line lines = refl
 put_error Oom b line lines = refl
 
-pub not_failed : (r : Result Unit CacheError) → r ≢ Err Disk → outcome_of r ≢ failed
+pub not_failed : (r : Result Unit CacheError) → r ≢ Err Disk → cache_outcome r ≢ failed
 not_failed (Ok x) other is = cc
 not_failed (Err Disk) other is = other refl
 not_failed (Err Oom) other is = cc
 
 -- ---- by how a call ended
 
-pub on_ok : (r : Result Unit CacheError) (P : Type 0) → (outcome_of r ≡ done → P) → OnOk r P
+pub on_ok : (r : Result Unit CacheError) (P : Type 0) → (cache_outcome r ≡ done → P) → OnOk r P
 on_ok (Ok x) P f = f refl
 on_ok (Err e) P f = tt
 
-pub on_err : (r : Result Unit CacheError) (P : Type 0) → ((e : CacheError) → outcome_of r ≡ outcome_of_error e → P) → OnErr r P
+pub on_err : (r : Result Unit CacheError) (P : Type 0) → ((e : CacheError) → cache_outcome r ≡ cache_error_outcome e → P) → OnErr r P
 on_err (Ok x) P f = tt
 on_err (Err e) P f = f e refl
 
@@ -106,7 +100,7 @@ dirty_leads o lines b entry s t lead =
     let one : LeadAll (write b entry.line.bytes o ∷ []) s t = subst (λ (cs : List DiskCall). LeadAll cs s t) (dirty_write o lines b entry) lead in
     subst (λ (u : DiskState). Leads (write b entry.line.bytes o) s u) (sym one.2) one.1
 
-pub kept_clean_lines : (o : Outcome) (blocks size b : ℕ) (lines : Entries) (victim : Option Victim) → IsKept blocks size (holding lines victim) → IsKept blocks size (holding (clean_lines o b lines) victim)
+pub kept_clean_lines : (o : Outcome) (blocks size b : ℕ) (lines : Entries) (victim : Option Victim) → IsCacheKept blocks size (holding lines victim) → IsCacheKept blocks size (holding (clean_lines o b lines) victim)
 kept_clean_lines done blocks size b lines victim kept = kept_cleaned blocks size b lines victim kept
 kept_clean_lines failed blocks size b lines victim kept = kept
 kept_clean_lines refused blocks size b lines victim kept = kept
@@ -140,6 +134,6 @@ clean_synced o s t lines within leads clean b line at is_clean = clean b line at
 pub content_synced : (o : Outcome) (s t : DiskState) (held : Held) (k : ℕ) → k < length s.durable → Leads (sync o) s t → cached held t k ≡ cached held s k
 content_synced o s t held k within leads = ap (λ (bytes : List ℕ). over_line (line_at held.lines k) (over_victim held.victim k bytes)) (read_of-sync o s t k within leads)
 
-pub clean_error : (e : CacheError) (b : ℕ) (lines : Entries) → clean_lines (outcome_of_error e) b lines ≡ lines
+pub clean_error : (e : CacheError) (b : ℕ) (lines : Entries) → clean_lines (cache_error_outcome e) b lines ≡ lines
 clean_error Disk b lines = refl
 clean_error Oom b lines = refl

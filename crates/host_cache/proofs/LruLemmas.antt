@@ -7,8 +7,7 @@ use Rattle.std.proofs.lemmas.Bool.{cases_eq, eq-eqb}
 use Rattle.std.proofs.lemmas.Bool.Decides.{nat_tests}
 use Rattle.std.proofs.lemmas.List.{take_all}
 use Rattle.lru.specs.LruCache.{LruCache, promoted, put_entries}
-use Rattle.host_cache.specs.Held.{line_at, in_front}
-use Rattle.host_cache.specs.declared.line.Line.{Line}
+use Rattle.host_cache.specs.{line_at, in_front, Line}
 use Rattle.host_cache.specs.declared.line.TheConstants.{ENTRIES}
 use Rattle.host_cache.proofs.EntryLemmas.{Entries, at_here, at_other, removed_absent}
 

@@ -1,17 +1,10 @@
 -- Runs of disk calls, one after the other.
 use Rattle.std.proofs.Common.{◌≡◌, ◌≢◌, inl, inr, ℕ, IsTrue, List, [], ◌∷◌, ◌++◌, refl, sym, ◌∙◌, ap, subst, arith}
-use Rattle.host_block.specs.Disk.{DiskState, Outcome, done, DiskCall, read, write, sync, LeadAll}
-use Rattle.host_io.specs.Causes.{next_count}
-use Rattle.host_io.specs.Disks.{Shape, read_counted, write_counted, sync_counted}
-use Rattle.host_io.specs.declared.counts.Counts.{Counts}
+use Rattle.host_block.specs.{DiskState, Outcome, done, DiskCall, read, write, sync, LeadAll}
+use Rattle.host_io.specs.{next_count, Shape, read_counted, write_counted, sync_counted, Counts}
 use Rattle.host_io.specs.declared.disk.Disk as disk
-use Rattle.host_cache.specs.Calls.{Rule, Then}
-use Rattle.host_cache.specs.Made.{counted, Made}
-use Rattle.host_cache.specs.Outcomes.{outcome_of_error}
-use Rattle.host_cache.specs.Seen.{disk_of, held_of, Runs}
-use Rattle.host_cache.specs.declared.cache.Cache.{Cache}
-use Rattle.host_cache.specs.declared.error.CacheError.{CacheError}
-use Rattle.host_cache.specs.declared.error.CacheError.TheVariants.{Disk, Oom}
+use Rattle.host_cache.specs.{Rule, Then, counted, cache_error_outcome, disk_of, held_of, Runs, Cache, CacheError, Disk, Oom}
+use Rattle.host_cache.specs.Made.{Made}
 
 pub LeadAll-append : (xs ys : List DiskCall) (s t u : DiskState) → LeadAll xs s t → LeadAll ys t u → LeadAll (xs ++ ys) s u
 LeadAll-append [] ys s t u first second = subst (λ (v : DiskState). LeadAll ys v u) first second
@@ -41,7 +34,7 @@ same_syncs (read b o ∷ calls) c d same = same_syncs calls (read_counted c) (re
 same_syncs (write b bytes o ∷ calls) c d same = same_syncs calls (write_counted c) (write_counted d) same
 same_syncs (sync o ∷ calls) c d same = same_syncs calls (sync_counted c) (sync_counted d) (ap (λ (n : ℕ). next_count n) same)
 
-pub error_not_done : (e : CacheError) → outcome_of_error e ≢ done
+pub error_not_done : (e : CacheError) → cache_error_outcome e ≢ done
 error_not_done Disk is = cc
 error_not_done Oom is = cc
 
@@ -80,7 +73,7 @@ module _ {D : Type 0} {g : disk.Ghosts D} where
     made = made_append g p.calls q.calls (disk_of a) (disk_of m) (disk_of b) p.made q.made;
   }
 
-  pub runs_early : (first second : Rule) (e : CacheError) (a m : Cache D g) → Runs first a (outcome_of_error e) m → Runs (Then first second) a (outcome_of_error e) m
+  pub runs_early : (first second : Rule) (e : CacheError) (a m : Cache D g) → Runs first a (cache_error_outcome e) m → Runs (Then first second) a (cache_error_outcome e) m
   runs_early first second e a m p = record {
     calls = p.calls;
     ruled = inl (record { ran = p.ruled; ended = error_not_done e });

@@ -1,17 +1,12 @@
 -- Calls of a cache, one after the other.
 use Rattle.std.proofs.Common.{◌≡◌, ◌≢◌, ℕ, ◌<◌, ◌≤◌, Bool, true, false, IsTrue, Option, Some, None, Result, Ok, Err, List, [], refl, sym, ◌∙◌, ap, subst, arith}
 use Rattle.std.specs.Prelude.{is_some, MatchOption, OnOk}
-use Rattle.host_block.specs.Disk.{read_of, Outcome, done, failed, refused, DiskCall}
-use Rattle.host_io.specs.Causes.{next_count}
-use Rattle.host_io.specs.Disks.{Shape}
+use Rattle.host_block.specs.{read_of, Outcome, done, failed, refused, DiskCall}
+use Rattle.host_io.specs.{next_count, Shape}
 use Rattle.host_io.specs.declared.disk.Disk as disk
-use Rattle.host_cache.specs.Held.{Held, line_at, over_line, over_victim, cached}
-use Rattle.host_cache.specs.Calls.{Rule, WritesVictim, after_victim, with_room, MakesRoom, Finds, Loads, GivesFound, Gives, RoomUnless, MakesRoomFor}
+use Rattle.host_cache.specs.Held.{Held}
+use Rattle.host_cache.specs.{line_at, over_line, over_victim, cached, Rule, WritesVictim, after_victim, with_room, MakesRoom, Finds, Loads, GivesFound, Gives, RoomUnless, MakesRoomFor, disk_of, shape_of, held_of, content_of, HasSameContent, HasFaulted, Runs, Cache, CacheError, Line}
 use Rattle.host_cache.specs.Made.{Made}
-use Rattle.host_cache.specs.Seen.{disk_of, shape_of, held_of, content_of, HasSameContent, HasFaulted, Runs}
-use Rattle.host_cache.specs.declared.cache.Cache.{Cache}
-use Rattle.host_cache.specs.declared.error.CacheError.{CacheError}
-use Rattle.host_cache.specs.declared.line.Line.{Line}
 use Rattle.host_cache.proofs.EntryLemmas.{Entries}
 use Rattle.host_cache.proofs.MadeLemmas.{made_none}
 use Rattle.host_cache.proofs.StepLemmas.{absent_room}

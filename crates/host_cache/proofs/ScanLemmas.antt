@@ -3,11 +3,7 @@ use Rattle.std.proofs.Common.{◌≡◌, ◌⊎◌, inl, inr, ℕ, ◌<◌, ◌�
 use Rattle.std.specs.Prelude.{fold, min, nat_le, if◌then◌else◌}
 use Rattle.std.proofs.lemmas.Bool.{cases_eq, cases_lt}
 use Rattle.std.proofs.lemmas.Bool.Decides.{nat_tests}
-use Rattle.host_cache.specs.Held.{line_at}
-use Rattle.host_cache.specs.Calls.{is_dirty}
-use Rattle.host_cache.specs.Kept.{AreApart}
-use Rattle.host_cache.specs.Scan.{lesser, nearer_of, first_dirty}
-use Rattle.host_cache.specs.declared.line.Line.{Line}
+use Rattle.host_cache.specs.{line_at, is_dirty, AreApart, lesser, nearer_of, first_dirty, Line}
 use Rattle.host_cache.proofs.EntryLemmas.{Entries, at_here, at_other}
 use Rattle.host_cache.proofs.CleanLemmas.{EachOf}
 

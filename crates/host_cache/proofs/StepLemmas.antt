@@ -3,16 +3,10 @@ use Rattle.std.proofs.Common.{◌≡◌, ◌≢◌, ◌⊎◌, inl, inr, ⊎_eli
 use Rattle.std.specs.Prelude.{cond, slice_get, if◌then◌else◌, ◌==◌}
 use Rattle.std.proofs.lemmas.Bool.{cases_eq, eq-eqb}
 use Rattle.std.proofs.lemmas.Bool.Decides.{nat_tests}
-use Rattle.host_block.specs.Disk.{DiskState, read_of, Outcome, done, failed, refused, write, Leads, LeadAll}
+use Rattle.host_block.specs.{DiskState, read_of, Outcome, done, failed, refused, write, Leads, LeadAll}
 use Rattle.host_block.proofs.DiskLemmas.{read_of-added, put_here, put_elsewhere}
-use Rattle.host_cache.specs.Held.{Held, line_at, over_line, over_victim, cached, in_front}
-use Rattle.host_cache.specs.Calls.{victim_writes, after_victim, victim_from, with_room}
-use Rattle.host_cache.specs.Outcomes.{outcome_of_error}
-use Rattle.host_cache.specs.declared.error.CacheError.{CacheError}
-use Rattle.host_cache.specs.declared.error.CacheError.TheVariants.{Disk, Oom}
-use Rattle.host_cache.specs.Kept.{AreApart, IsBlock, IsKept, AreClean}
-use Rattle.host_cache.specs.declared.line.Line.{Line}
-use Rattle.host_cache.specs.declared.line.Victim.{Victim}
+use Rattle.host_cache.specs.Held.{Held}
+use Rattle.host_cache.specs.{line_at, over_line, over_victim, cached, in_front, victim_writes, after_victim, victim_from, with_room, cache_error_outcome, CacheError, Disk, Oom, AreApart, IsBlock, IsCacheKept, AreClean, Line, Victim}
 use Rattle.host_cache.specs.declared.line.TheConstants.{ENTRIES}
 use Rattle.host_cache.proofs.EntryLemmas.{Entries, front_here, front_other, apart_front, length_front_found, length_front_absent, push_other, push_here, front_none, apart_pushed, split_last, IsSplit}
 
@@ -30,7 +24,7 @@ read_same s t b bytes leads = ap (λ (u : DiskState). read_of u b) leads ∙ rea
 
 -- ---- the victim is written
 
-pub kept_victim : (blocks size : ℕ) (o : Outcome) (held : Held) → IsKept blocks size held → IsKept blocks size (after_victim o held)
+pub kept_victim : (blocks size : ℕ) (o : Outcome) (held : Held) → IsCacheKept blocks size held → IsCacheKept blocks size (after_victim o held)
 kept_victim blocks size done held kept = record { apart = kept.apart; room = kept.room; lines = kept.lines; victim = λ v is. cc }
 kept_victim blocks size failed held kept = kept
 kept_victim blocks size refused held kept = kept
@@ -49,7 +43,7 @@ clean_victim o s t lines (Some v) absent lead clean =
 abbrev pub holding : Entries → Option Victim → Held
 holding lines victim = record { lines = lines; victim = victim }
 
-pub after_error : (e : CacheError) (held : Held) → after_victim (outcome_of_error e) held ≡ held
+pub after_error : (e : CacheError) (held : Held) → after_victim (cache_error_outcome e) held ≡ held
 after_error Disk held = refl
 after_error Oom held = refl
 
@@ -104,7 +98,7 @@ evicted_victim blocks size front last v is_block absent true is =
     subst (λ (w : Victim). IsBlock blocks size w.block w.bytes × (line_at front w.block ≡ None)) same (is_block, absent)
 evicted_victim blocks size front last v is_block absent false is = cc
 
-kept_evicted : (blocks size : ℕ) (held : Held) (front : Entries) (last : ℕ × Line) → held.lines ≡ front ++ last ∷ [] → IsKept blocks size held → IsKept blocks size (holding front (victim_from (Some last)))
+kept_evicted : (blocks size : ℕ) (held : Held) (front : Entries) (last : ℕ × Line) → held.lines ≡ front ++ last ∷ [] → IsCacheKept blocks size held → IsCacheKept blocks size (holding front (victim_from (Some last)))
 kept_evicted blocks size held front last whole kept =
     let apart : AreApart (front ++ last ∷ []) = subst (λ (l : Entries). AreApart l) whole kept.apart in
     let long : length held.lines ≡ length (front ++ last ∷ []) = ap (λ (l : Entries). length l) whole in
@@ -149,15 +143,15 @@ shortened_is held split = λ i. holding (split.taken i) (victim_from (split.read
 evicted_is : (held : Held) (full : length held.lines ≡ ENTRIES) → with_room held ≡ holding (split_full held full).front (victim_from (Some (split_full held full).last))
 evicted_is held full = room_full held full ∙ shortened_is held (split_full held full)
 
-pub kept_room : (blocks size : ℕ) (held : Held) → IsKept blocks size held → IsKept blocks size (with_room held)
+pub kept_room : (blocks size : ℕ) (held : Held) → IsCacheKept blocks size held → IsCacheKept blocks size (with_room held)
 kept_room blocks size held kept = elim (cases_eq (length held.lines) ENTRIES) [
   | inl full ↦
       let split = split_full held full in
-      subst (λ (h : Held). IsKept blocks size h) (sym (evicted_is held full)) (kept_evicted blocks size held split.front split.last split.whole kept)
-  | inr free ↦ subst (λ (h : Held). IsKept blocks size h) (sym (room_free held free)) kept
+      subst (λ (h : Held). IsCacheKept blocks size h) (sym (evicted_is held full)) (kept_evicted blocks size held split.front split.last split.whole kept)
+  | inr free ↦ subst (λ (h : Held). IsCacheKept blocks size h) (sym (room_free held free)) kept
 ]
 
-pub clean_room : (blocks size : ℕ) (s : DiskState) (held : Held) → IsKept blocks size held → AreClean s held.lines → AreClean s (with_room held).lines
+pub clean_room : (blocks size : ℕ) (s : DiskState) (held : Held) → IsCacheKept blocks size held → AreClean s held.lines → AreClean s (with_room held).lines
 clean_room blocks size s held kept clean = elim (cases_eq (length held.lines) ENTRIES) [
   | inl full ↦
       let split = split_full held full in
@@ -165,7 +159,7 @@ clean_room blocks size s held kept clean = elim (cases_eq (length held.lines) EN
   | inr free ↦ subst (λ (h : Held). AreClean s h.lines) (sym (room_free held free)) clean
 ]
 
-pub content_room : (blocks size : ℕ) (s : DiskState) (held : Held) → IsKept blocks size held → AreClean s held.lines → held.victim ≡ None → (k : ℕ) → cached (with_room held) s k ≡ cached held s k
+pub content_room : (blocks size : ℕ) (s : DiskState) (held : Held) → IsCacheKept blocks size held → AreClean s held.lines → held.victim ≡ None → (k : ℕ) → cached (with_room held) s k ≡ cached held s k
 content_room blocks size s held kept clean empty k = elim (cases_eq (length held.lines) ENTRIES) [
   | inl full ↦
       let split = split_full held full in
@@ -199,8 +193,8 @@ put_line b k line l es at = elim (cases_eq b k) [
   | inr other ↦ inr (sym (front_other b k line es other) ∙ at)
 ]
 
-pub kept_put : (blocks size b : ℕ) (line : Line) (held : Held) → IsKept blocks size held → held.victim ≡ None → IsBlock blocks size b line.bytes → (line_at held.lines b ≢ None) ⊎ (length held.lines < ENTRIES)
-    → IsKept blocks size (record { lines = in_front b line held.lines; victim = held.victim })
+pub kept_put : (blocks size b : ℕ) (line : Line) (held : Held) → IsCacheKept blocks size held → held.victim ≡ None → IsBlock blocks size b line.bytes → (line_at held.lines b ≢ None) ⊎ (length held.lines < ENTRIES)
+    → IsCacheKept blocks size (record { lines = in_front b line held.lines; victim = held.victim })
 kept_put blocks size b line held kept empty is_block fits = record {
   apart = apart_front b line held.lines kept.apart;
   room = room_in_front b line held.lines (line_at held.lines b) refl kept.room fits;

@@ -1,25 +1,30 @@
 -- Which disk calls a call of a cache makes, in order, how it ends, and what it holds then.
 use Prim.Native.Nat.{zero, suc}
-use Rattle.std.specs.Prelude.{◌≡◌, ◌≢◌, ◌⊎◌, ℕ, ◌-◌, ◌<◌, ◌==◌, Bool, true, false, Option, Some, None, List, [], ◌∷◌, ◌++◌, length, take, map, replicate, nat_lt, slice_get, if◌then◌else◌}
+use Rattle.std.specs.Prelude.{◌≡◌, ◌≢◌, ◌⊎◌, ℕ, ◌-◌, ◌<◌, ◌==◌, Bool, true, false, Option, Some}
+use Rattle.std.specs.Prelude.{None, List, [], ◌∷◌, ◌++◌, length, take, map, replicate, nat_lt}
+use Rattle.std.specs.Prelude.{slice_get, if◌then◌else◌}
 use Rattle.host_block.specs.Disk.{Outcome, done, failed, refused, DiskCall, read, write, sync}
 use Rattle.host_cache.specs.Held.{Held, line_at, in_front}
 use Rattle.host_cache.specs.declared.line.Line.{Line}
 use Rattle.host_cache.specs.declared.line.Victim.{Victim}
 use Rattle.host_cache.specs.declared.line.TheConstants.{ENTRIES}
 
--- A rule ties what was held, the disk calls with their outcomes, how it ended, and what is held then.
+-- A rule ties what was held, the disk calls with their outcomes, how it ended, and what is held
+-- then.
 abbrev pub Rule : Type 1
 Rule = Held → List DiskCall → Outcome → Held → Type 0
 
 -- ---- one rule after the other
 
 -- the first rule doesn't succeed, and so ends the call
-pub record EndsEarly (first : Rule) (old : Held) (calls : List DiskCall) (outcome : Outcome) (new : Held) : Type 0 where
+pub record EndsEarly (first : Rule) (old : Held) (calls : List DiskCall) (outcome : Outcome)
+    (new : Held) : Type 0 where
   pub ran : first old calls outcome new
   pub ended : outcome ≢ done
 
 -- the first rule succeeds, and the second follows
-pub record GoesOn (first second : Rule) (old : Held) (calls : List DiskCall) (outcome : Outcome) (new : Held) : Type 0 where
+pub record GoesOn (first second : Rule) (old : Held) (calls : List DiskCall) (outcome : Outcome)
+    (new : Held) : Type 0 where
   pub mid : Held
   pub front : List DiskCall
   pub back : List DiskCall
@@ -28,7 +33,8 @@ pub record GoesOn (first second : Rule) (old : Held) (calls : List DiskCall) (ou
   pub in_order : calls ≡ front ++ back
 
 abbrev pub Then : Rule → Rule → Rule
-Then first second old calls outcome new = EndsEarly first old calls outcome new ⊎ GoesOn first second old calls outcome new
+Then first second old calls outcome new =
+    EndsEarly first old calls outcome new ⊎ GoesOn first second old calls outcome new
 
 -- ---- the victim
 
@@ -43,7 +49,8 @@ after_victim failed held = held
 after_victim refused held = held
 
 -- The disk gets the victim, where there is one, which is gone once that write has succeeded.
-pub record WritesVictim (old : Held) (calls : List DiskCall) (outcome : Outcome) (new : Held) : Type 0 where
+pub record WritesVictim (old : Held) (calls : List DiskCall) (outcome : Outcome) (new : Held)
+    : Type 0 where
   pub calls_are : calls ≡ victim_writes old.victim outcome
   pub idle : old.victim ≡ None → outcome ≡ done
   pub leaves : new ≡ after_victim outcome old
@@ -59,8 +66,10 @@ victim_from (Some e) = if e.1.dirty then Some (record { block = e.0; bytes = e.1
 abbrev pub with_room : Held → Held
 with_room held =
     if length held.lines == ENTRIES
-    then record { lines = take (length held.lines - 1) held.lines; victim = victim_from (slice_get held.lines (length held.lines - 1)) }
-    else held
+    then record {
+      lines = take (length held.lines - 1) held.lines;
+      victim = victim_from (slice_get held.lines (length held.lines - 1));
+    } else held
 
 -- Where the list is full its last entry leaves it; a dirty one becomes the victim and is written.
 abbrev pub MakesRoom : Rule
@@ -74,7 +83,8 @@ put_lines failed b line lines = lines
 put_lines refused b line lines = lines
 
 -- The entry of block b is put in front without a disk call; only want of memory hinders it.
-pub record PutsInFront (b : ℕ) (line : Line) (old : Held) (calls : List DiskCall) (outcome : Outcome) (new : Held) : Type 0 where
+pub record PutsInFront (b : ℕ) (line : Line) (old : Held) (calls : List DiskCall)
+    (outcome : Outcome) (new : Held) : Type 0 where
   pub calls_are : calls ≡ []
   pub not_failed : outcome ≢ failed
   pub leaves : new ≡ record { lines = put_lines outcome b line old.lines; victim = old.victim }
@@ -88,14 +98,16 @@ dirty_line bytes = record { bytes = bytes; dirty = true }
 -- ---- a read that gives these bytes
 
 -- The block is in the list: its bytes are given and it moves to the front, with no disk call.
-pub record Finds (b : ℕ) (given : List ℕ) (line : Line) (old : Held) (calls : List DiskCall) (outcome : Outcome) (new : Held) : Type 0 where
+pub record Finds (b : ℕ) (given : List ℕ) (line : Line) (old : Held) (calls : List DiskCall)
+    (outcome : Outcome) (new : Held) : Type 0 where
   pub calls_are : calls ≡ []
   pub succeeds : outcome ≡ done
   pub bytes : given ≡ line.bytes
   pub leaves : new ≡ record { lines = in_front b line old.lines; victim = old.victim }
 
 -- Block b is read from the disk.
-pub record ReadsDisk (b : ℕ) (old : Held) (calls : List DiskCall) (outcome : Outcome) (new : Held) : Type 0 where
+pub record ReadsDisk (b : ℕ) (old : Held) (calls : List DiskCall) (outcome : Outcome) (new : Held)
+    : Type 0 where
   pub calls_are : calls ≡ read b outcome ∷ []
   pub leaves : new ≡ old
 
@@ -116,7 +128,8 @@ IsRead b given = Then WritesVictim (Gives b given)
 -- ---- a write of these bytes, and a trim
 
 -- Nothing is done.
-pub record Idles (old : Held) (calls : List DiskCall) (outcome : Outcome) (new : Held) : Type 0 where
+pub record Idles (old : Held) (calls : List DiskCall) (outcome : Outcome) (new : Held)
+    : Type 0 where
   pub calls_are : calls ≡ []
   pub succeeds : outcome ≡ done
   pub leaves : new ≡ old
@@ -173,30 +186,38 @@ clean_lines failed b lines = lines
 clean_lines refused b lines = lines
 
 -- A dirty entry is written, and is clean once the write succeeded.
-pub record Cleans (b : ℕ) (old : Held) (calls : List DiskCall) (outcome : Outcome) (new : Held) : Type 0 where
+pub record Cleans (b : ℕ) (old : Held) (calls : List DiskCall) (outcome : Outcome) (new : Held)
+    : Type 0 where
   pub calls_are : calls ≡ write_calls outcome (dirty_at b (line_at old.lines b))
   pub leaves : new ≡ record { lines = clean_lines outcome b old.lines; victim = old.victim }
 
 -- all dirty entries are written, and are clean
-pub record WritesAll (blocks : ℕ) (old : Held) (calls : List DiskCall) (outcome : Outcome) (new : Held) : Type 0 where
+pub record WritesAll (blocks : ℕ) (old : Held) (calls : List DiskCall) (outcome : Outcome)
+    (new : Held) : Type 0 where
   pub calls_are : calls ≡ write_calls done (dirty_below old.lines blocks)
   pub succeeds : outcome ≡ done
   pub leaves : new ≡ record { lines = cleaned_below blocks old.lines; victim = old.victim }
 
 -- the write of block b doesn't succeed; the dirty entries before it were written, and are clean
-pub record StopsAt (blocks b : ℕ) (old : Held) (calls : List DiskCall) (outcome : Outcome) (new : Held) : Type 0 where
+pub record StopsAt (blocks b : ℕ) (old : Held) (calls : List DiskCall) (outcome : Outcome)
+    (new : Held) : Type 0 where
   pub within : b < blocks
   pub dirty : is_dirty (line_at old.lines b) ≡ true
-  pub calls_are : calls ≡ write_calls done (dirty_below old.lines b) ++ write_calls outcome (dirty_at b (line_at old.lines b))
+  pub calls_are : calls
+      ≡ write_calls done (dirty_below old.lines b)
+      ++ write_calls outcome (dirty_at b (line_at old.lines b))
   pub ended : outcome ≢ done
   pub leaves : new ≡ record { lines = cleaned_below b old.lines; victim = old.victim }
 
--- The dirty blocks go to the disk one by one, the lowest number first, and each that got there is clean.
+-- The dirty blocks go to the disk one by one, the lowest number first, and each that got there is
+-- clean.
 abbrev pub WritesDirty : ℕ → Rule
-WritesDirty blocks old calls outcome new = WritesAll blocks old calls outcome new ⊎ ((b : ℕ) × StopsAt blocks b old calls outcome new)
+WritesDirty blocks old calls outcome new =
+    WritesAll blocks old calls outcome new ⊎ ((b : ℕ) × StopsAt blocks b old calls outcome new)
 
 -- The disk is synced once.
-pub record Syncs (old : Held) (calls : List DiskCall) (outcome : Outcome) (new : Held) : Type 0 where
+pub record Syncs (old : Held) (calls : List DiskCall) (outcome : Outcome) (new : Held)
+    : Type 0 where
   pub calls_are : calls ≡ sync outcome ∷ []
   pub leaves : new ≡ old
 

@@ -5,7 +5,8 @@ use Rattle.host_block.specs.Disk.{DiskState, read_of}
 use Rattle.host_cache.specs.declared.line.Line.{Line}
 use Rattle.host_cache.specs.declared.line.Victim.{Victim}
 
--- the list, whose front was used last, and the victim: a block out of the list that the disk still has to get
+-- the list, whose front was used last, and the victim: a block out of the list that the disk still
+-- has to get
 pub record Held : Type 0 where
   pub lines : List (ℕ × Line)
   pub victim : Option Victim
@@ -24,7 +25,8 @@ abbrev pub over_victim : Option Victim → ℕ → List ℕ → List ℕ
 over_victim None b below = below
 over_victim (Some v) b below = if v.block == b then v.bytes else below
 
--- the content of block b: the list's bytes, else the victim's, else those that a read of the disk gives
+-- the content of block b: the list's bytes, else the victim's, else those that a read of the disk
+-- gives
 abbrev pub cached : Held → DiskState → ℕ → List ℕ
 cached held s b = over_line (line_at held.lines b) (over_victim held.victim b (read_of s b))
 

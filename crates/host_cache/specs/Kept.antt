@@ -20,13 +20,18 @@ apart_is_one (e ∷ es) = let rest = apart_is_one es in hlevel (rest, props)
 abbrev pub IsBlock : ℕ → ℕ → ℕ → List ℕ → Type 0
 IsBlock blocks size b bytes = (b < blocks) × (length bytes ≡ size)
 
--- No block stands twice among list and victim, the list isn't too long, and each has a block's number of bytes.
-pub record IsKept (blocks size : ℕ) (held : Held) : Type 0 where
+-- No block stands twice among list and victim, the list isn't too long, and each has a block's
+-- number of bytes.
+pub record IsCacheKept (blocks size : ℕ) (held : Held) : Type 0 where
   pub apart : AreApart held.lines
   pub room : length held.lines ≤ ENTRIES
-  pub lines : (b : ℕ) (line : Line) → line_at held.lines b ≡ Some line → IsBlock blocks size b line.bytes
-  pub victim : (v : Victim) → held.victim ≡ Some v → IsBlock blocks size v.block v.bytes × (line_at held.lines v.block ≡ None)
+  pub lines : (b : ℕ) (line : Line) → line_at held.lines b ≡ Some line
+      → IsBlock blocks size b line.bytes
+  pub victim : (v : Victim) → held.victim ≡ Some v
+      → IsBlock blocks size v.block v.bytes × (line_at held.lines v.block ≡ None)
 
 -- of a clean entry the disk has the same bytes
 abbrev pub AreClean : DiskState → List (ℕ × Line) → Type 0
-AreClean s lines = (b : ℕ) (line : Line) → line_at lines b ≡ Some line → line.dirty ≡ false → line.bytes ≡ read_of s b
+AreClean s lines =
+    (b : ℕ) (line : Line) → line_at lines b ≡ Some line → line.dirty ≡ false
+    → line.bytes ≡ read_of s b

@@ -13,7 +13,8 @@ counted (write b bytes outcome ∷ calls) counts = counted calls (write_counted 
 counted (sync outcome ∷ calls) counts = counted calls (sync_counted counts)
 
 -- These calls, and no other, led from the disk as it was to the disk as it is.
-pub record Made {D : Type 0} (g : disk.Ghosts D) (calls : List DiskCall) (old new : D) : Type 0 where
+pub record Made {D : Type 0} (g : disk.Ghosts D) (calls : List DiskCall) (old new : D)
+    : Type 0 where
   pub shape : g.shape new ≡ g.shape old
   pub opening : g.opening new ≡ g.opening old
   pub state : IsTrue (g.shape old).tells → LeadAll calls (g.state old) (g.state new)

@@ -7,14 +7,14 @@ use Rattle.host_cache.specs.declared.error.CacheError.{CacheError}
 use Rattle.host_cache.specs.declared.error.CacheError.TheVariants.{Disk, Oom}
 
 -- what an error of the disk is to the caller of the cache
-abbrev pub error_of : DiskError → CacheError
-error_of disk.Failed = Disk
-error_of disk.Oom = Oom
+abbrev pub cache_error_of : DiskError → CacheError
+cache_error_of disk.Failed = Disk
+cache_error_of disk.Oom = Oom
 
-abbrev pub outcome_of_error : CacheError → Outcome
-outcome_of_error Disk = failed
-outcome_of_error Oom = refused
+abbrev pub cache_error_outcome : CacheError → Outcome
+cache_error_outcome Disk = failed
+cache_error_outcome Oom = refused
 
-abbrev pub outcome_of : {T : Type 0} → Result T CacheError → Outcome
-outcome_of (Ok x) = done
-outcome_of (Err e) = outcome_of_error e
+abbrev pub cache_outcome : {T : Type 0} → Result T CacheError → Outcome
+cache_outcome (Ok x) = done
+cache_outcome (Err e) = cache_error_outcome e

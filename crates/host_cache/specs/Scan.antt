@@ -1,5 +1,6 @@
 -- What a look over the list finds.
-use Rattle.std.specs.Prelude.{ℕ, Bool, ◌&&◌, Option, Some, None, List, fold, min, nat_le, if◌then◌else◌}
+use Rattle.std.specs.Prelude.{ℕ, Bool, ◌&&◌, Option, Some, None, List, fold, min, nat_le}
+use Rattle.std.specs.Prelude.{if◌then◌else◌}
 use Rattle.host_cache.specs.declared.line.Line.{Line}
 
 abbrev pub lesser : Option ℕ → ℕ → ℕ

@@ -25,18 +25,23 @@ module _ {D : Type 0} {g : disk.Ghosts D} where
 
   -- no block has another content
   abbrev pub HasSameContent : Cache D g → Cache D g → Type 0
-  HasSameContent old new = IsTrue (shape_of old).tells → (k : ℕ) → k < (shape_of old).blocks → content_of new k ≡ content_of old k
+  HasSameContent old new =
+      IsTrue (shape_of old).tells → (k : ℕ) → k < (shape_of old).blocks
+      → content_of new k ≡ content_of old k
 
   -- block b has these bytes, and no other block has another content
   abbrev pub HasWritten : ℕ → List ℕ → Cache D g → Cache D g → Type 0
-  HasWritten b bytes old new = IsTrue (shape_of old).tells → (k : ℕ) → k < (shape_of old).blocks → content_of new k ≡ (if b == k then bytes else content_of old k)
+  HasWritten b bytes old new =
+      IsTrue (shape_of old).tells → (k : ℕ) → k < (shape_of old).blocks
+      → content_of new k ≡ (if b == k then bytes else content_of old k)
 
   -- the disk's count of faults rose
   abbrev pub HasFaulted : Cache D g → Cache D g → Type 0
   HasFaulted old new = Rose (g.counts old.disk).faults (g.counts new.disk).faults
 
   -- The cache kept to this rule, and its disk was called so and no more.
-  pub record Runs (rule : Rule) (old : Cache D g) (outcome : Outcome) (new : Cache D g) : Type 0 where
+  pub record Runs (rule : Rule) (old : Cache D g) (outcome : Outcome) (new : Cache D g)
+      : Type 0 where
     pub calls : List DiskCall
     pub ruled : rule (held_of old) calls outcome (held_of new)
     pub made : Made g calls (disk_of old) (disk_of new)

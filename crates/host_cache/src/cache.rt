@@ -1,7 +1,7 @@
 // The cache.
 ghost use Rattle.std.specs.Prelude.{◌≡◌, ◌<◌, ◌^◌, length, IsTrue, IfErr, IfOk};
 ghost use Rattle.std.proofs.Props.{props};
-ghost use Rattle.host_cache.specs.Kept.{IsKept, AreClean, apart_is_one};
+ghost use Rattle.host_cache.specs.Kept.{IsCacheKept, AreClean, apart_is_one};
 ghost use Rattle.host_cache.specs.declared.line.TheConstants.{ENTRIES as the_entries};
 
 use crate::CacheError;
@@ -32,15 +32,17 @@ pub struct Cache<D: Disk> {
     ghost in_word: { blocks < 2 ^ 64 },
     ghost same_blocks: { blocks ≡ (D.shape disk).blocks },
     ghost same_size: { size ≡ (D.shape disk).size },
-    ghost kept: { IsKept (D.shape disk).blocks (D.shape disk).size (record { lines = lines.entries; victim = victim }) } by { Prim.hlevel (apart_is_one, props) },
+    ghost kept: { IsCacheKept (D.shape disk).blocks (D.shape disk).size
+        (record { lines = lines.entries; victim = victim }) } by { Prim.hlevel (apart_is_one, props) },
     ghost clean: { IsTrue (D.shape disk).tells → AreClean (D.state disk) lines.entries },
 }
 
 impl<D: Disk> Cache<D> {
     ghost use Rattle.std.specs.Prelude.{[], None, OnOk, OnErr, IsErrOf, replicate};
     ghost use Rattle.host_cache.specs.Calls.{IsRead, IsWrite, IsTrim, IsFlush};
-    ghost use Rattle.host_cache.specs.Outcomes.{outcome_of};
-    ghost use Rattle.host_cache.specs.Seen.{disk_of, shape_of, held_of, content_of, HasSameContent, HasWritten, HasFaulted, Runs};
+    ghost use Rattle.host_cache.specs.Outcomes.{cache_outcome};
+    ghost use Rattle.host_cache.specs.Seen.{disk_of, shape_of, held_of, content_of, HasSameContent};
+    ghost use Rattle.host_cache.specs.Seen.{HasWritten, HasFaulted, Runs};
 
     /// An empty cache over this disk, which has so many blocks of this size.
     pub fn new(alloc: Global, disk: D, blocks: u64, size: BlockSize) -> Result<Cache<D>, NoCache<D>>
@@ -48,7 +50,8 @@ impl<D: Disk> Cache<D> {
         requires blocks { blocks ≡ (D.shape disk).blocks }
         requires size { size ≡ (D.shape disk).size }
         ensures disk { IfOk result (λ cache. disk_of cache ≡ disk) }
-        ensures empty { IfOk result (λ cache. held_of cache ≡ record { lines = []; victim = None }) }
+        ensures empty { IfOk result
+            (λ cache. held_of cache ≡ record { lines = []; victim = None }) }
         ensures refused { IfErr result (λ refused. refused.disk ≡ disk) }
     {
         let Some(entries) = NonZeroUsize::new(ENTRIES) else {
@@ -71,8 +74,9 @@ impl<D: Disk> Cache<D> {
     pub fn read(&mut self, b: u64, into: &mut [u8]) -> Result<(), CacheError>
         requires block { b < (shape_of self.old).blocks }
         requires piece { length into.old ≡ (shape_of self.old).size }
-        ensures calls { Runs (IsRead b into.new) self.old (outcome_of result) self.new }
-        ensures bytes { IsTrue (shape_of self.old).tells → OnOk result (into.new ≡ content_of self.old b) }
+        ensures calls { Runs (IsRead b into.new) self.old (cache_outcome result) self.new }
+        ensures bytes { IsTrue (shape_of self.old).tells
+            → OnOk result (into.new ≡ content_of self.old b) }
         ensures content { HasSameContent self.old self.new }
         ensures shape { shape_of self.new ≡ shape_of self.old }
         ensures fault { IsErrOf result CacheError.Disk → HasFaulted self.old self.new }
@@ -88,7 +92,7 @@ impl<D: Disk> Cache<D> {
     pub fn write(&mut self, b: u64, from: &[u8]) -> Result<(), CacheError>
         requires block { b < (shape_of self.old).blocks }
         requires piece { length from.now ≡ (shape_of self.old).size }
-        ensures calls { Runs (IsWrite b from.now) self.old (outcome_of result) self.new }
+        ensures calls { Runs (IsWrite b from.now) self.old (cache_outcome result) self.new }
         ensures written { OnOk result (HasWritten b from.now self.old self.new) }
         ensures content { OnErr result (HasSameContent self.old self.new) }
         ensures shape { shape_of self.new ≡ shape_of self.old }
@@ -107,8 +111,10 @@ impl<D: Disk> Cache<D> {
     /// Makes block `b` read as zero.
     pub fn trim(&mut self, b: u64) -> Result<(), CacheError>
         requires block { b < (shape_of self.old).blocks }
-        ensures calls { Runs (IsTrim (shape_of self.old).size b) self.old (outcome_of result) self.new }
-        ensures trimmed { OnOk result (HasWritten b (replicate (shape_of self.old).size 0) self.old self.new) }
+        ensures calls { Runs (IsTrim (shape_of self.old).size b) self.old (cache_outcome result)
+            self.new }
+        ensures trimmed { OnOk result
+            (HasWritten b (replicate (shape_of self.old).size 0) self.old self.new) }
         ensures content { OnErr result (HasSameContent self.old self.new) }
         ensures shape { shape_of self.new ≡ shape_of self.old }
         ensures fault { IsErrOf result CacheError.Disk → HasFaulted self.old self.new }
@@ -125,7 +131,8 @@ impl<D: Disk> Cache<D> {
 
     /// Writes what is dirty to the disk by rising block number, and syncs it.
     pub fn flush(&mut self) -> Result<(), CacheError>
-        ensures calls { Runs (IsFlush (shape_of self.old).blocks) self.old (outcome_of result) self.new }
+        ensures calls { Runs (IsFlush (shape_of self.old).blocks) self.old (cache_outcome result)
+            self.new }
         ensures content { HasSameContent self.old self.new }
         ensures shape { shape_of self.new ≡ shape_of self.old }
         ensures fault { IsErrOf result CacheError.Disk → HasFaulted self.old self.new }

@@ -1,6 +1,6 @@
 // Why a call of a cache failed.
 ghost use Rattle.std.specs.Prelude.{◌≡◌};
-ghost use Rattle.host_cache.specs.Outcomes.{error_of};
+ghost use Rattle.host_cache.specs.Outcomes.{cache_error_of};
 
 use host_io::DiskError;
 use thiserror::Error;
@@ -16,7 +16,7 @@ pub enum CacheError {
 }
 
 impl From<DiskError> for CacheError {
-    ghost from_gives = { λ error e. e ≡ error_of error };
+    ghost from_gives = { λ error e. e ≡ cache_error_of error };
 
     fn from(error: DiskError) -> CacheError {
         match error {

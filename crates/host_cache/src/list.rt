@@ -1,11 +1,13 @@
 // The list of a cache.
-ghost use Rattle.std.specs.Prelude.{◌≡◌, ◌≢◌, ◌⊎◌, ◌<◌, ◌-◌, true, false, None, Some, length, take, slice_get, nat_eq, IsErrOf, MatchOption};
+ghost use Rattle.std.specs.Prelude.{◌≡◌, ◌≢◌, ◌⊎◌, ◌<◌, ◌-◌, true, false, None, Some, length, take};
+ghost use Rattle.std.specs.Prelude.{slice_get, nat_eq, IsErrOf, MatchOption};
 ghost use Rattle.lru.specs.LruCache.{lru_cache, promoted};
-ghost use Rattle.host_cache.specs.Calls.{victim_from, put_lines, clean_lines, write_calls, dirty_at, is_dirty, cleaned_at};
+ghost use Rattle.host_cache.specs.Calls.{victim_from, put_lines, clean_lines, write_calls};
+ghost use Rattle.host_cache.specs.Calls.{dirty_at, is_dirty, cleaned_at};
 ghost use Rattle.host_cache.specs.Held.{line_at};
 ghost use Rattle.host_cache.specs.Kept.{AreApart};
 ghost use Rattle.host_cache.specs.Made.{Made};
-ghost use Rattle.host_cache.specs.Outcomes.{outcome_of};
+ghost use Rattle.host_cache.specs.Outcomes.{cache_outcome};
 ghost use Rattle.host_cache.specs.Scan.{nearer_of, first_dirty as the_first_dirty};
 ghost use Rattle.host_cache.specs.declared.line.Line.{Line as Entry};
 ghost use Rattle.host_io.specs.Causes.{Rose};
@@ -30,8 +32,10 @@ fn victim_of(block: u64, line: Line) -> Option<Victim>
 
 /// Takes the last entry out of the list. It is the victim where it is dirty.
 pub fn take_last(lines: &mut LruCache<u64, Line>) -> Option<Victim>
-    ensures victim { result ≡ victim_from (slice_get lines.old.entries (length lines.old.entries - 1)) }
-    ensures lines { lines.new ≡ lru_cache (take (length lines.old.entries - 1) lines.old.entries) lines.old.cap }
+    ensures victim { result
+        ≡ victim_from (slice_get lines.old.entries (length lines.old.entries - 1)) }
+    ensures lines { lines.new
+        ≡ lru_cache (take (length lines.old.entries - 1) lines.old.entries) lines.old.cap }
 {
     match lines.pop_lru() {
         Some((block, line)) => victim_of(block, line),
@@ -41,8 +45,10 @@ pub fn take_last(lines: &mut LruCache<u64, Line>) -> Option<Victim>
 
 /// Copies the bytes of block `b`, where the list has it, and moves it to the front.
 pub fn copy_entry(lines: &mut LruCache<u64, Line>, b: u64, into: &mut [u8]) -> bool
-    requires { (line : Entry) → line_at lines.old.entries b ≡ Some line → length line.bytes ≡ length into.old }
-    ensures found { MatchOption (line_at lines.old.entries b) (result ≡ false) (λ line. (result ≡ true) × (into.new ≡ line.bytes)) }
+    requires { (line : Entry) → line_at lines.old.entries b ≡ Some line
+        → length line.bytes ≡ length into.old }
+    ensures found { MatchOption (line_at lines.old.entries b) (result ≡ false)
+        (λ line. (result ≡ true) × (into.new ≡ line.bytes)) }
     ensures lines { lines.new ≡ lru_cache (promoted (nat_eq b) lines.old.entries) lines.old.cap }
 {
     match lines.get(&b) {
@@ -58,7 +64,8 @@ pub fn copy_entry(lines: &mut LruCache<u64, Line>, b: u64, into: &mut [u8]) -> b
 pub fn put_entry(lines: &mut LruCache<u64, Line>, b: u64, line: Line) -> Result<(), CacheError>
     requires cap { lines.old.cap ≡ ENTRIES }
     requires room { (line_at lines.old.entries b ≢ None) ⊎ (length lines.old.entries < ENTRIES) }
-    ensures lines { lines.new ≡ lru_cache (put_lines (outcome_of result) b line lines.old.entries) lines.old.cap }
+    ensures lines { lines.new
+        ≡ lru_cache (put_lines (cache_outcome result) b line lines.old.entries) lines.old.cap }
     ensures memory { result ≢ Err CacheError.Disk }
 {
     match lines.put(b, line) {
@@ -107,10 +114,15 @@ pub fn clean_entry<D: Disk>(
 ) -> Result<(), CacheError>
     requires apart { AreApart lines.old.entries }
     requires dirty { is_dirty (line_at lines.old.entries b) ≡ true }
-    requires fits { (line : Entry) → line_at lines.old.entries b ≡ Some line → (b < (D.shape disk.old).blocks) × (length line.bytes ≡ (D.shape disk.old).size) }
-    ensures lines { lines.new ≡ lru_cache (clean_lines (outcome_of result) b lines.old.entries) lines.old.cap }
-    ensures made { Made D.Disk (write_calls (outcome_of result) (dirty_at b (line_at lines.old.entries b))) disk.old disk.new }
-    ensures fault { IsErrOf result CacheError.Disk → Rose (D.counts disk.old).faults (D.counts disk.new).faults }
+    requires fits { (line : Entry) → line_at lines.old.entries b ≡ Some line
+        → (b < (D.shape disk.old).blocks) × (length line.bytes ≡ (D.shape disk.old).size) }
+    ensures lines { lines.new
+        ≡ lru_cache (clean_lines (cache_outcome result) b lines.old.entries) lines.old.cap }
+    ensures made { Made D.Disk
+        (write_calls (cache_outcome result) (dirty_at b (line_at lines.old.entries b))) disk.old
+        disk.new }
+    ensures fault { IsErrOf result CacheError.Disk
+        → Rose (D.counts disk.old).faults (D.counts disk.new).faults }
 {
     let Some(line) = lines.peek(&b) else {
         return Ok(());

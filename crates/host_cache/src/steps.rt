@@ -10,16 +10,20 @@ use host_block::Bytes;
 use host_io::Disk;
 
 impl<D: Disk> Cache<D> {
-    ghost use Rattle.std.specs.Prelude.{◌≢◌, ◌⊎◌, true, false, None, [], OnOk, OnErr, IsErrOf, MatchOption};
+    ghost use Rattle.std.specs.Prelude.{◌≢◌, ◌⊎◌, true, false, None, [], OnOk, OnErr, IsErrOf};
+    ghost use Rattle.std.specs.Prelude.{MatchOption};
     ghost use Rattle.host_block.specs.Disk.{read_of, done};
-    ghost use Rattle.host_cache.specs.Calls.{Then, WritesVictim, with_room, Loads, Gives, MakesRoom, PutsInFront, clean_line, Finds, ReadsDisk, Prepares, is_dirty, Cleans, WritesDirty, Syncs};
+    ghost use Rattle.host_cache.specs.Calls.{Then, WritesVictim, with_room, Loads, Gives};
+    ghost use Rattle.host_cache.specs.Calls.{MakesRoom, PutsInFront, clean_line, Finds, ReadsDisk};
+    ghost use Rattle.host_cache.specs.Calls.{Prepares, is_dirty, Cleans, WritesDirty, Syncs};
     ghost use Rattle.host_cache.specs.Held.{line_at};
-    ghost use Rattle.host_cache.specs.Outcomes.{outcome_of};
-    ghost use Rattle.host_cache.specs.Seen.{disk_of, shape_of, held_of, content_of, HasSameContent, HasWritten, HasFaulted, Runs};
+    ghost use Rattle.host_cache.specs.Outcomes.{cache_outcome};
+    ghost use Rattle.host_cache.specs.Seen.{disk_of, shape_of, held_of, content_of, HasSameContent};
+    ghost use Rattle.host_cache.specs.Seen.{HasWritten, HasFaulted, Runs};
 
     // Writes the victim, where one is there.
     pub(crate) fn write_victim(&mut self) -> Result<(), CacheError>
-        ensures calls { Runs WritesVictim self.old (outcome_of result) self.new }
+        ensures calls { Runs WritesVictim self.old (cache_outcome result) self.new }
         ensures fault { IsErrOf result CacheError.Disk → HasFaulted self.old self.new }
         ensures shape { shape_of self.new ≡ shape_of self.old }
         ensures content { HasSameContent self.old self.new }
@@ -54,7 +58,7 @@ impl<D: Disk> Cache<D> {
     // Makes room for one more entry.
     fn make_room(&mut self) -> Result<(), CacheError>
         requires { (held_of self.old).victim ≡ None }
-        ensures calls { Runs MakesRoom self.old (outcome_of result) self.new }
+        ensures calls { Runs MakesRoom self.old (cache_outcome result) self.new }
         ensures fault { IsErrOf result CacheError.Disk → HasFaulted self.old self.new }
         ensures shape { shape_of self.new ≡ shape_of self.old }
         ensures content { HasSameContent self.old self.new }
@@ -67,12 +71,13 @@ impl<D: Disk> Cache<D> {
 
     // Writes the victim, and makes room for block `b` where it isn't in the list.
     pub(crate) fn prepare(&mut self, b: u64) -> Result<(), CacheError>
-        ensures calls { Runs (Prepares b) self.old (outcome_of result) self.new }
+        ensures calls { Runs (Prepares b) self.old (cache_outcome result) self.new }
         ensures fault { IsErrOf result CacheError.Disk → HasFaulted self.old self.new }
         ensures shape { shape_of self.new ≡ shape_of self.old }
         ensures content { HasSameContent self.old self.new }
         ensures empty { OnOk result ((held_of self.new).victim ≡ None) }
-        ensures room { OnOk result ((line_at (held_of self.new).lines b ≢ None) ⊎ (length (held_of self.new).lines < ENTRIES)) }
+        ensures room { OnOk result ((line_at (held_of self.new).lines b ≢ None)
+            ⊎ (length (held_of self.new).lines < ENTRIES)) }
     {
         match self.write_victim() {
             Ok(()) => {}
@@ -89,8 +94,8 @@ impl<D: Disk> Cache<D> {
         requires piece { length into.old ≡ (shape_of self.old).size }
         requires victim { (held_of self.old).victim ≡ None }
         ensures found { MatchOption (line_at (held_of self.old).lines b)
-            ((result ≡ false) × (held_of self.new ≡ held_of self.old))
-            (λ line. (result ≡ true) × Finds b into.new line (held_of self.old) [] done (held_of self.new)) }
+            ((result ≡ false) × (held_of self.new ≡ held_of self.old)) (λ line.
+            (result ≡ true) × Finds b into.new line (held_of self.old) [] done (held_of self.new)) }
         ensures disk { disk_of self.new ≡ disk_of self.old }
         ensures content { HasSameContent self.old self.new }
     {
@@ -102,9 +107,11 @@ impl<D: Disk> Cache<D> {
         requires block { b < (shape_of self.old).blocks }
         requires piece { length line.bytes ≡ (shape_of self.old).size }
         requires victim { (held_of self.old).victim ≡ None }
-        requires room { (line_at (held_of self.old).lines b ≢ None) ⊎ (length (held_of self.old).lines < ENTRIES) }
-        requires clean { IsTrue (shape_of self.old).tells → line.dirty ≡ false → line.bytes ≡ read_of (D.state (disk_of self.old)) b }
-        ensures calls { Runs (PutsInFront b line) self.old (outcome_of result) self.new }
+        requires room { (line_at (held_of self.old).lines b ≢ None)
+            ⊎ (length (held_of self.old).lines < ENTRIES) }
+        requires clean { IsTrue (shape_of self.old).tells → line.dirty ≡ false
+            → line.bytes ≡ read_of (D.state (disk_of self.old)) b }
+        ensures calls { Runs (PutsInFront b line) self.old (cache_outcome result) self.new }
         ensures fault { IsErrOf result CacheError.Disk → HasFaulted self.old self.new }
         ensures shape { shape_of self.new ≡ shape_of self.old }
         ensures written { OnOk result (HasWritten b line.bytes self.old self.new) }
@@ -117,12 +124,14 @@ impl<D: Disk> Cache<D> {
     fn read_through(&mut self, b: u64, into: &mut [u8]) -> Result<(), CacheError>
         requires block { b < (shape_of self.old).blocks }
         requires piece { length into.old ≡ (shape_of self.old).size }
-        ensures calls { Runs (ReadsDisk b) self.old (outcome_of result) self.new }
+        ensures calls { Runs (ReadsDisk b) self.old (cache_outcome result) self.new }
         ensures fault { IsErrOf result CacheError.Disk → HasFaulted self.old self.new }
         ensures shape { shape_of self.new ≡ shape_of self.old }
         ensures held { held_of self.new ≡ held_of self.old }
-        ensures state { IsTrue (shape_of self.old).tells → D.state (disk_of self.new) ≡ D.state (disk_of self.old) }
-        ensures bytes { IsTrue (shape_of self.old).tells → OnOk result (into.new ≡ read_of (D.state (disk_of self.old)) b) }
+        ensures state { IsTrue (shape_of self.old).tells
+            → D.state (disk_of self.new) ≡ D.state (disk_of self.old) }
+        ensures bytes { IsTrue (shape_of self.old).tells
+            → OnOk result (into.new ≡ read_of (D.state (disk_of self.old)) b) }
     {
         read_disk(&mut self.disk, b, into)
     }
@@ -134,10 +143,12 @@ impl<D: Disk> Cache<D> {
         requires victim { (held_of self.old).victim ≡ None }
         requires absent { line_at (held_of self.old).lines b ≡ None }
         requires room { length (held_of self.old).lines < ENTRIES }
-        ensures calls { Runs (Then (ReadsDisk b) (PutsInFront b (clean_line into.new))) self.old (outcome_of result) self.new }
+        ensures calls { Runs (Then (ReadsDisk b) (PutsInFront b (clean_line into.new))) self.old
+            (cache_outcome result) self.new }
         ensures fault { IsErrOf result CacheError.Disk → HasFaulted self.old self.new }
         ensures shape { shape_of self.new ≡ shape_of self.old }
-        ensures bytes { IsTrue (shape_of self.old).tells → OnOk result (into.new ≡ content_of self.old b) }
+        ensures bytes { IsTrue (shape_of self.old).tells
+            → OnOk result (into.new ≡ content_of self.old b) }
         ensures content { HasSameContent self.old self.new }
     {
         match self.read_through(b, into) {
@@ -162,10 +173,11 @@ impl<D: Disk> Cache<D> {
         requires piece { length into.old ≡ (shape_of self.old).size }
         requires victim { (held_of self.old).victim ≡ None }
         requires absent { line_at (held_of self.old).lines b ≡ None }
-        ensures calls { Runs (Loads b into.new) self.old (outcome_of result) self.new }
+        ensures calls { Runs (Loads b into.new) self.old (cache_outcome result) self.new }
         ensures fault { IsErrOf result CacheError.Disk → HasFaulted self.old self.new }
         ensures shape { shape_of self.new ≡ shape_of self.old }
-        ensures bytes { IsTrue (shape_of self.old).tells → OnOk result (into.new ≡ content_of self.old b) }
+        ensures bytes { IsTrue (shape_of self.old).tells
+            → OnOk result (into.new ≡ content_of self.old b) }
         ensures content { HasSameContent self.old self.new }
     {
         match self.make_room() {
@@ -180,10 +192,11 @@ impl<D: Disk> Cache<D> {
         requires block { b < (shape_of self.old).blocks }
         requires piece { length into.old ≡ (shape_of self.old).size }
         requires victim { (held_of self.old).victim ≡ None }
-        ensures calls { Runs (Gives b into.new) self.old (outcome_of result) self.new }
+        ensures calls { Runs (Gives b into.new) self.old (cache_outcome result) self.new }
         ensures fault { IsErrOf result CacheError.Disk → HasFaulted self.old self.new }
         ensures shape { shape_of self.new ≡ shape_of self.old }
-        ensures bytes { IsTrue (shape_of self.old).tells → OnOk result (into.new ≡ content_of self.old b) }
+        ensures bytes { IsTrue (shape_of self.old).tells
+            → OnOk result (into.new ≡ content_of self.old b) }
         ensures content { HasSameContent self.old self.new }
     {
         if self.recall(b, into) {
@@ -195,7 +208,7 @@ impl<D: Disk> Cache<D> {
     // Writes the dirty entry of block `b`, which is clean then.
     fn clean(&mut self, b: u64) -> Result<(), CacheError>
         requires { is_dirty (line_at (held_of self.old).lines b) ≡ true }
-        ensures calls { Runs (Cleans b) self.old (outcome_of result) self.new }
+        ensures calls { Runs (Cleans b) self.old (cache_outcome result) self.new }
         ensures fault { IsErrOf result CacheError.Disk → HasFaulted self.old self.new }
         ensures shape { shape_of self.new ≡ shape_of self.old }
         ensures content { HasSameContent self.old self.new }
@@ -205,7 +218,8 @@ impl<D: Disk> Cache<D> {
 
     // Writes the dirty entries by rising block number.
     pub(crate) fn write_dirty(&mut self) -> Result<(), CacheError>
-        ensures calls { Runs (WritesDirty (shape_of self.old).blocks) self.old (outcome_of result) self.new }
+        ensures calls { Runs (WritesDirty (shape_of self.old).blocks) self.old
+            (cache_outcome result) self.new }
         ensures fault { IsErrOf result CacheError.Disk → HasFaulted self.old self.new }
         ensures shape { shape_of self.new ≡ shape_of self.old }
         ensures content { HasSameContent self.old self.new }
@@ -223,7 +237,7 @@ impl<D: Disk> Cache<D> {
 
     // Syncs the disk.
     pub(crate) fn sync(&mut self) -> Result<(), CacheError>
-        ensures calls { Runs Syncs self.old (outcome_of result) self.new }
+        ensures calls { Runs Syncs self.old (cache_outcome result) self.new }
         ensures fault { IsErrOf result CacheError.Disk → HasFaulted self.old self.new }
         ensures shape { shape_of self.new ≡ shape_of self.old }
         ensures content { HasSameContent self.old self.new }

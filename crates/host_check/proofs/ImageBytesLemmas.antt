@@ -1,10 +1,9 @@
 -- The blocks of an image, one after the other.
 use Rattle.std.proofs.Common.{◌≡◌, ◌↔◌, ℕ, suc, ◌+◌, ◌/◌, ◌<◌, ◌≤◌, false, IsTrue, List, [], ◌∷◌, ◌++◌, length, take, drop, sym, ap, ◌∙◌, arith, length-drop, append-nil, append_assoc}
 use Rattle.std.proofs.Math.Nat.{add-div_right, div-eq_of_lt}
-use Rattle.host_io.specs.Flat.{cut, image_of}
-use Rattle.host_report.specs.Lawful.{IsLawful}
-use Rattle.host_report.specs.declared.report.Report.{Report}
-use Rattle.host_check.specs.ImageBytes.{HasNoTable}
+use Rattle.host_io.specs.{cut, image_of}
+use Rattle.host_report.specs.{IsLawful, Report}
+use Rattle.host_check.specs.{HasNoTable}
 
 image_of-first : (size : ℕ) (bytes : List ℕ) → 0 < size → size ≤ length bytes → image_of size bytes ≡ take size bytes ∷ image_of size (drop size bytes)
 image_of-first size bytes some enough =

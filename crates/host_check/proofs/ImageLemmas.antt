@@ -3,16 +3,12 @@ use Rattle.std.proofs.Common.{◌≡◌, ◌↔◌, ℕ, Bool, ◌==◌, ◌&&�
 use Rattle.std.proofs.lemmas.Bool.{eq-eqb, eqb-true}
 use Rattle.std.proofs.lemmas.List.Sums.{AllPass-from_list_all, list_all-from_AllPass}
 use Rattle.std.specs.List.{AllByRecursion, list_all}
-use Rattle.host_block.specs.Disk.{IsImage}
-use Rattle.host_gpt.specs.Table.{IsTable}
-use Rattle.host_gpt.specs.declared.entry.Entry.{Entry}
-use Rattle.host_gpt.specs.declared.which.Which.{Which}
+use Rattle.host_block.specs.{IsImage}
+use Rattle.host_gpt.specs.{IsTable, Entry, Which}
 use Rattle.host_gpt.proofs.LawLemmas.{one_table}
-use Rattle.host_part.specs.Ranges.{IsRangeOf}
-use Rattle.host_part.specs.Served.{Layout}
+use Rattle.host_part.specs.{IsRangeOf, Layout}
 use Rattle.host_model.proofs.ListTests.{and-from, both}
-use Rattle.host_report.specs.Lawful.{IsOfImage, IsOnTable}
-use Rattle.host_report.specs.declared.report.Report.{Report}
+use Rattle.host_report.specs.{IsOfImage, IsOnTable, Report}
 
 size_is : (image : List (List ℕ)) (size : ℕ) → IsTrue (list_all (λ block. length block == size) image) ↔ IsImage size image
 size_is image size = (

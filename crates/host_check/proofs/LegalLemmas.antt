@@ -5,13 +5,10 @@ use Rattle.std.proofs.lemmas.Option.{slice_get-get_or, slice_get_within}
 use Rattle.std.proofs.lemmas.Slice.Eq.{bytes_eq-Decides}
 use Rattle.std.specs.List.{list_all}
 use Rattle.std.specs.Option.{option_map_or}
-use Rattle.host_block.specs.declared.op.Op.TheVariants.{Flush}
-use Rattle.host_block.specs.Changes.{Change, IsLegal, content, is_read}
-use Rattle.host_model.specs.declared.step.Step.{Step}
-use Rattle.host_model.specs.Changes.{change_of, changes_of}
-use Rattle.host_model.specs.Lists.{below}
+use Rattle.host_block.specs.{Flush, Change, IsLegal, content, is_read}
+use Rattle.host_model.specs.{Step, change_of, changes_of, below}
 use Rattle.host_model.proofs.ListTests.{implied, implies-from, tested_below}
-use Rattle.host_check.specs.Legal.{reads_after, reads_content}
+use Rattle.host_check.specs.{reads_after, reads_content}
 use Rattle.record_check.proofs.GroupLemmas.{all_below-from, below_step}
 
 pub zeros_are : (n : ℕ) (zeros : List ℕ) → zeros ≡ replicate n 0 → zeros ≡ replicate (length zeros) 0

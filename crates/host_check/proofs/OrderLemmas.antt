@@ -2,16 +2,10 @@
 use Rattle.std.proofs.Common.{◌≡◌, ◌↔◌, ℕ, zero, suc, ◌+◌, ◌<◌, ◌≤◌, Bool, ◌&&◌, ◌||◌, IsTrue, nat_lt, List, [], ◌∷◌, length, map, take, drop, refl, sym, ap, ◌∙◌, subst, arith}
 use Rattle.std.proofs.lemmas.List.{length-map}
 use Rattle.std.specs.List.{list_all, list_any, range_with_len}
-use Rattle.host_model.specs.declared.event.Event.{Event}
-use Rattle.host_model.specs.declared.event.Event.TheVariants.{Attached, NotAttached, Filled, Sent, Received, Shown, Drained, Aborted}
-use Rattle.host_model.specs.declared.row.TakenRow.{TakenRow}
-use Rattle.host_model.specs.Lists.{all_before, below, implies}
-use Rattle.host_model.specs.Log.{requests, sending, sent}
-use Rattle.host_model.specs.Order.{KeepsOrder, follows_record, had_in, precedes_event, entry_places, step_places, client_places, told_by}
+use Rattle.host_model.specs.{Event, Attached, NotAttached, Filled, Sent, Received, Shown, Drained, Aborted, TakenRow, all_before, below, implies, requests, sending, sent, KeepsOrder, follows_record, had_in, precedes_event, entry_places, step_places, client_places, told_by, verdicts}
 use Rattle.host_model.specs.Session.{Session}
-use Rattle.host_model.specs.Verdict.{verdicts}
 use Rattle.host_model.proofs.ListTests.{and-from, both, tested_below}
-use Rattle.host_check.specs.Had.{client_by, follows_by, had_of, is_order_kept, is_ordered_by, precedes_by, some_of}
+use Rattle.host_check.specs.{client_by, follows_by, had_of, is_order_kept, is_ordered_by, precedes_by, some_of}
 use Rattle.record_check.proofs.GroupLemmas.{all_below-from, length-below}
 
 pub length-had : (log : List Event) (rows : List TakenRow) (r : ℕ) (had : List Bool) → had ≡ had_of log rows r → length had ≡ length log + 1

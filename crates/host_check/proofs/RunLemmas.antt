@@ -4,12 +4,9 @@ use Rattle.std.proofs.lemmas.Bool.{le-ltb, lt-ltb, ltb-false, ltb-true}
 use Rattle.std.proofs.lemmas.List.{length-map}
 use Rattle.std.specs.List.{range_with_len}
 use Rattle.host_model.proofs.ListTests.{and-from, both}
-use Rattle.host_report.specs.Lawful.{IsLawful, IsLawfulRun, IsOfImage, IsOnTable}
-use Rattle.host_report.specs.declared.report.Report.{Report}
-use Rattle.host_check.specs.Parts.{TellsRun}
-use Rattle.host_check.specs.declared.parts.RunParts.{RunParts}
-use Rattle.host_report.specs.declared.session.SessionReport.{SessionReport}
-use Rattle.record_check.specs.Counting.{counts_from}
+use Rattle.host_report.specs.{IsLawful, IsLawfulRun, IsOfImage, IsOnTable, Report, SessionReport}
+use Rattle.host_check.specs.{TellsParts, RunParts}
+use Rattle.record_check.specs.{counts_from}
 use Rattle.record_check.proofs.TakingLemmas.{counts_is}
 
 pub numbers_are : (sessions : List SessionReport) → IsTrue (counts_from 1 (map (λ s. s.number) sessions)) ↔ (map (λ s. s.number) sessions ≡ range_with_len 1 (length sessions))
@@ -25,7 +22,7 @@ more_than n = at (nat_lt 4096 n) refl
     at true e = let few : 4096 < n = ltb-true 4096 n e in let some : 4096 < min 4097 (0 + n) = omega (arith, few) in lt-ltb 4096 (min 4097 (0 + n)) some
     at false e = let few : n ≤ 4096 = ltb-false 4096 n e in let none : min 4097 (0 + n) ≤ 4096 = omega (arith, few) in le-ltb 4096 (min 4097 (0 + n)) none
 
-pub run_is : (image : List (List ℕ)) (report : Report) (p : RunParts) → TellsRun image report p
+pub run_is : (image : List (List ℕ)) (report : Report) (p : RunParts) → TellsParts image report p
     → IsTrue (p.numbers && p.sessions && p.closing && p.legal && p.frames && p.home) ↔ IsLawfulRun image report
 run_is image report p h = (
   λ t.

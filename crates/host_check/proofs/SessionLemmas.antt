@@ -1,10 +1,9 @@
 -- A session is lawful where each of its parts is as it has to be.
 use Rattle.std.proofs.Common.{◌↔◌, ◌&&◌, IsTrue}
-use Rattle.host_model.specs.LawfulSession.{IsLawfulSession}
+use Rattle.host_model.specs.{IsLawfulSession}
 use Rattle.host_model.specs.Session.{Session}
 use Rattle.host_model.proofs.ListTests.{and-from, both}
-use Rattle.host_check.specs.Parts.{TellsSession}
-use Rattle.host_check.specs.declared.parts.SessionParts.{SessionParts}
+use Rattle.host_check.specs.{TellsSession, SessionParts}
 
 pub session_is : (s : Session) (p : SessionParts) → TellsSession s p → IsTrue (p.taken && p.carried && p.answered && p.buffers && p.ordered) ↔ IsLawfulSession s
 session_is s p h = (

@@ -8,7 +8,9 @@ use Rattle.host_gpt.specs.declared.table.Table.{Table}
 use Rattle.host_gpt.specs.declared.which.Which.{Which}
 
 abbrev pub HasNoTable : List (List ℕ) → Type 0
-HasNoTable image = (which : Which) (id : List ℕ) (first last : ℕ) (entries : List Entry) → ¬ IsTable image which id first last entries
+HasNoTable image =
+    (which : Which) (id : List ℕ) (first last : ℕ) (entries : List Entry)
+    → ¬ IsTable image which id first last entries
 
 abbrev pub IsTableIn : List (List ℕ) → Option Table → Type 0
 IsTableIn image (Some table) = IsTableOf image table × AreUsed table.entries.items

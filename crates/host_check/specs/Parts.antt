@@ -11,7 +11,8 @@ use Rattle.host_model.specs.Lists.{implies}
 use Rattle.host_model.specs.Order.{KeepsOrder}
 use Rattle.host_model.specs.Session.{Session}
 use Rattle.host_model.specs.Taking.{IsTakenInOrder}
-use Rattle.host_report.specs.Lawful.{closing_steps, is_of_sessions, pages_asked, ran_short, session_of}
+use Rattle.host_report.specs.Lawful.{closing_steps, is_of_sessions, pages_asked, ran_short}
+use Rattle.host_report.specs.Lawful.{session_of}
 use Rattle.host_report.specs.declared.report.Report.{Report}
 use Rattle.host_check.specs.declared.parts.RunParts.{RunParts}
 use Rattle.host_check.specs.declared.parts.SessionParts.{SessionParts}
@@ -25,10 +26,17 @@ pub record TellsSession (s : Session) (p : SessionParts) : Type 0 where
   pub ordered : IsTrue p.ordered ↔ KeepsOrder s
 
 -- each part of the run holds where it is told
-pub record TellsRun (image : List (List ℕ)) (report : Report) (p : RunParts) : Type 0 where
-  pub numbers : IsTrue p.numbers ↔ (map (λ s. s.number) report.sessions.items ≡ range_with_len 1 (length report.sessions.items))
-  pub sessions : IsTrue p.sessions ↔ AllByRecursion (λ s. IsLawfulSession (session_of report s)) report.sessions.items
-  pub closing : IsTrue p.closing ↔ (report.steps.items ≡ filter (is_of_sessions (length report.sessions.items)) report.steps.items ++ closing_steps report.closing)
+pub record TellsParts (image : List (List ℕ)) (report : Report) (p : RunParts) : Type 0 where
+  pub numbers : IsTrue p.numbers
+      ↔ (map (λ s. s.number) report.sessions.items
+      ≡ range_with_len 1 (length report.sessions.items))
+  pub sessions : IsTrue p.sessions
+      ↔ AllByRecursion (λ s. IsLawfulSession (session_of report s)) report.sessions.items
+  pub closing : IsTrue p.closing
+      ↔ (report.steps.items
+      ≡ filter (is_of_sessions (length report.sessions.items)) report.steps.items
+      ++ closing_steps report.closing)
   pub legal : IsTrue p.legal ↔ IsLegal image (changes_of report.steps.items)
-  pub frames : p.frames ≡ implies (ran_short report.sessions.items) (nat_lt 4096 (pages_asked report.sessions.items))
+  pub frames : p.frames
+      ≡ implies (ran_short report.sessions.items) (nat_lt 4096 (pages_asked report.sessions.items))
   pub home : IsTrue p.home ↔ (report.frames_home ≡ 4096)

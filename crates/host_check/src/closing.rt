@@ -93,7 +93,8 @@ pub fn ends_with_closing(
     n: usize,
     closing: Closing,
 ) -> Result<bool, Oom>
-    ensures { IfOk result (λ b. IsTrue b ↔ (steps.now ≡ filter (is_of_sessions n) steps.now ++ closing_steps closing)) }
+    ensures { IfOk result (λ b.
+        IsTrue b ↔ (steps.now ≡ filter (is_of_sessions n) steps.now ++ closing_steps closing)) }
 {
     let mut expected = of_sessions(alloc, steps, n)?;
     push_closing(&mut expected, closing)?;

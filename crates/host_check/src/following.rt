@@ -2,7 +2,8 @@
 ghost use Rattle.std.specs.Prelude.{◌≡◌, ◌<◌, ◌+◌, ◌&&◌, nat_lt, length, IfOk};
 ghost use Rattle.std.specs.List.{list_all};
 ghost use Rattle.host_model.specs.Lists.{all_before, below};
-ghost use Rattle.host_check.specs.Had.{client_by, entries_at, follows_by, is_ordered_after, is_ordered_by, precedes_by, steps_at};
+ghost use Rattle.host_check.specs.Had.{client_by, entries_at, follows_by, is_ordered_after};
+ghost use Rattle.host_check.specs.Had.{is_ordered_by, precedes_by, steps_at};
 
 use crate::order::{had_each, had_in_first, sending_of};
 use buffer_check::{
@@ -25,7 +26,10 @@ fn both_before(
     entries_r: &[usize],
     i: usize,
 ) -> Result<bool, Oom>
-    ensures { IfOk result (λ b. b ≡ (all_before steps_r.now (steps_at steps.now i) && all_before entries_r.now (entries_at rs.now verdicts.now history.now i))) }
+    ensures { IfOk result (λ b.
+        b
+        ≡ (all_before steps_r.now (steps_at steps.now i)
+        && all_before entries_r.now (entries_at rs.now verdicts.now history.now i))) }
 {
     let steps_i = step_places(alloc, steps, i)?;
     let entries_i = entry_places(alloc, rs, verdicts, history, i)?;
@@ -45,7 +49,10 @@ fn follows(
     i: usize,
 ) -> Result<bool, Oom>
     requires { length had.now ≡ length log.now + 1 }
-    ensures { IfOk result (λ b. b ≡ follows_by rs.now verdicts.now log.now steps.now history.now had.now steps_r.now entries_r.now i) }
+    ensures { IfOk result (λ b.
+        b
+        ≡ follows_by rs.now verdicts.now log.now steps.now history.now had.now steps_r.now
+        entries_r.now i) }
 {
     if !had_in_first(had, sending_of(log, i)) {
         return Ok(true);
@@ -66,7 +73,10 @@ fn all_follow(
     n: usize,
 ) -> Result<bool, Oom>
     requires { length had.now ≡ length log.now + 1 }
-    ensures { IfOk result (λ b. b ≡ list_all (follows_by rs.now verdicts.now log.now steps.now history.now had.now steps_r.now entries_r.now) (below n)) }
+    ensures { IfOk result (λ b.
+        b
+        ≡ list_all (follows_by rs.now verdicts.now log.now steps.now history.now had.now steps_r.now
+        entries_r.now) (below n)) }
 {
     let mut all = true;
     for i in 0..n {
@@ -116,7 +126,10 @@ fn all_precede(
     entries_r: &[usize],
 ) -> Result<bool, Oom>
     requires had { length had.now ≡ length log.now + 1 }
-    ensures { IfOk result (λ b. b ≡ list_all (precedes_by log.now history.now had.now entries_r.now) (below (length log.now))) }
+    ensures { IfOk result (λ b.
+        b
+        ≡ list_all (precedes_by log.now history.now had.now entries_r.now)
+        (below (length log.now))) }
 {
     let mut all = true;
     for n in 0..log.len() {
@@ -138,7 +151,10 @@ fn is_ordered_after(
     entries_r: &[usize],
 ) -> Result<bool, Oom>
     requires had { length had.now ≡ length log.now + 1 }
-    ensures { IfOk result (λ b. b ≡ is_ordered_after rs.now verdicts.now log.now steps.now history.now had.now steps_r.now entries_r.now) }
+    ensures { IfOk result (λ b.
+        b
+        ≡ is_ordered_after rs.now verdicts.now log.now steps.now history.now had.now steps_r.now
+        entries_r.now) }
 {
     let n = sent_count(log);
     let follow = all_follow(
@@ -159,7 +175,8 @@ fn is_ordered(
     history: &[MemEvent],
     r: usize,
 ) -> Result<bool, Oom>
-    ensures { IfOk result (λ b. b ≡ is_ordered_by rs.now verdicts.now log.now rows.now steps.now history.now r) }
+    ensures { IfOk result
+        (λ b. b ≡ is_ordered_by rs.now verdicts.now log.now rows.now steps.now history.now r) }
 {
     let Ok(had) = had_each(alloc, log, rows, r) else {
         return Err(Oom);
@@ -183,7 +200,10 @@ pub fn all_ordered(
     history: &[MemEvent],
     n: usize,
 ) -> Result<bool, Oom>
-    ensures { IfOk result (λ b. b ≡ list_all (is_ordered_by rs.now verdicts.now log.now rows.now steps.now history.now) (below n)) }
+    ensures { IfOk result (λ b.
+        b
+        ≡ list_all (is_ordered_by rs.now verdicts.now log.now rows.now steps.now history.now)
+        (below n)) }
 {
     let mut all = true;
     for r in 0..n {
@@ -219,7 +239,8 @@ pub fn all_follow_client(
     history: &[MemEvent],
     n: usize,
 ) -> Result<bool, Oom>
-    ensures { IfOk result (λ b. b ≡ list_all (client_by rs.now verdicts.now log.now history.now) (below n)) }
+    ensures { IfOk result
+        (λ b. b ≡ list_all (client_by rs.now verdicts.now log.now history.now) (below n)) }
 {
     let mut all = true;
     for i in 0..n {

@@ -2,7 +2,8 @@
 ghost use Rattle.std.specs.Prelude.{◌≡◌, ◌+◌, ◌≤◌, min, nat_lt, sum_by};
 ghost use Rattle.std.specs.List.{list_any};
 ghost use Rattle.host_model.specs.Lists.{implies};
-ghost use Rattle.host_report.specs.Lawful.{is_short_of_frames, pages_asked, pages_asked_by, ran_short};
+ghost use Rattle.host_report.specs.Lawful.{is_short_of_frames, pages_asked, pages_asked_by};
+ghost use Rattle.host_report.specs.Lawful.{ran_short};
 
 use host_model::{AttachError, Event};
 use host_report::SessionReport;

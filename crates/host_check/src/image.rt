@@ -49,7 +49,8 @@ fn is_range(parts: &Parts, number: u32, range: &Range) -> bool
 // Whether each session is on a served partition.
 fn are_partitions(parts: &Parts, sessions: &[SessionReport]) -> bool
     requires { AreUsed parts.now.entries }
-    ensures { IsTrue result ↔ AllByRecursion (λ s. IsRangeOf parts.now s.part s.range) sessions.now }
+    ensures { IsTrue result
+        ↔ AllByRecursion (λ s. IsRangeOf parts.now s.part s.range) sessions.now }
 {
     match sessions {
         [] => true,
@@ -67,15 +68,16 @@ fn is_same_header(a: Which, b: Which) -> bool
     a == b
 }
 
-/// Whether the report's header is the one that the image's table is read by, and its sessions are on partitions that
-/// this table serves.
+/// Whether the report's header is the one that the image's table is read by, and its sessions are
+/// on partitions that this table serves.
 pub fn is_on_table(
     alloc: Global,
     image: &[Bytes],
     table: &Table,
     report: &Report,
 ) -> Result<bool, Oom>
-    requires table { IsTable image.now table.now.which table.now.disk_id table.now.first_usable table.now.last_usable table.now.entries.items }
+    requires table { IsTable image.now table.now.which table.now.disk_id table.now.first_usable
+        table.now.last_usable table.now.entries.items }
     requires entries { AreUsed table.now.entries.items }
     ensures { IfOk result (λ b. IsTrue b ↔ IsOnTable image.now report.now) }
 {

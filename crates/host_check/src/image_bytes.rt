@@ -1,5 +1,6 @@
 //! Whether a report is lawful for an image in one run of bytes.
-ghost use Rattle.std.specs.Prelude.{◌≡◌, ◌↔◌, ◌<◌, ◌≤◌, ◌++◌, [], ◌∷◌, IsTrue, length, take, drop, IfOk, OnOk};
+ghost use Rattle.std.specs.Prelude.{◌≡◌, ◌↔◌, ◌<◌, ◌≤◌, ◌++◌, [], ◌∷◌, IsTrue, length, take, drop};
+ghost use Rattle.std.specs.Prelude.{IfOk, OnOk};
 ghost use Rattle.host_io.specs.Flat.{image_of};
 ghost use Rattle.host_report.specs.Lawful.{IsLawful};
 ghost use Rattle.host_check.specs.ImageBytes.{IsTableIn};
@@ -76,9 +77,11 @@ fn table_of(alloc: Global, bytes: &[u8], size: BlockSize) -> Result<Option<Table
     }
 }
 
-/// Whether the report is lawful for the image that these bytes are, cut in blocks of the report's size.
+/// Whether the report is lawful for the image that these bytes are, cut in blocks of the report's
+/// size.
 pub fn is_lawful_image(alloc: Global, bytes: &[u8], report: &Report) -> Result<bool, Oom>
-    ensures { IfOk result (λ b. IsTrue b ↔ IsLawful (image_of report.now.size bytes.now) report.now) }
+    ensures { IfOk result
+        (λ b. IsTrue b ↔ IsLawful (image_of report.now.size bytes.now) report.now) }
 {
     let image = blocks_of(alloc, bytes, report.size)?;
     match table_of(alloc, bytes, report.size)? {

@@ -21,7 +21,9 @@ fn is_same(a: &[u8], b: &[u8]) -> bool
 // What the step leaves in block b, where `now` stood there and `zeros` is a block of zeros.
 fn left_by<'a>(step: &'a Step, b: u64, now: &'a [u8], zeros: &'a [u8]) -> &'a [u8]
     requires { zeros.now ≡ replicate (length zeros.now) 0 }
-    ensures { result.now ≡ (if changes_block (change_of step.now) b then put_by (length zeros.now) step.now.op step.now.bytes else now.now) }
+    ensures { result.now
+        ≡ (if changes_block (change_of step.now) b
+        then put_by (length zeros.now) step.now.op step.now.bytes else now.now) }
 {
     if step.faulted {
         return now;
@@ -37,10 +39,12 @@ fn left_by<'a>(step: &'a Step, b: u64, now: &'a [u8], zeros: &'a [u8]) -> &'a [u
     }
 }
 
-// Whether block b has these bytes after the steps, where `now` stands there before them and `zeros` is a block of zeros.
+// Whether block b has these bytes after the steps, where `now` stands there before them and `zeros`
+// is a block of zeros.
 fn is_content(steps: &[Step], b: u64, now: &[u8], zeros: &[u8], bytes: &[u8]) -> bool
     requires { zeros.now ≡ replicate (length zeros.now) 0 }
-    ensures { result ≡ bytes_eq bytes.now (changed (length zeros.now) (changes_of steps.now) b now.now) }
+    ensures { result
+        ≡ bytes_eq bytes.now (changed (length zeros.now) (changes_of steps.now) b now.now) }
 {
     match steps {
         [] => is_same(bytes, now),
@@ -58,11 +62,14 @@ fn block_of(image: &[Bytes], b: u64) -> &[u8]
     }
 }
 
-// Whether the step has the bytes of its block's content after these steps, where `zeros` is a block of zeros.
+// Whether the step has the bytes of its block's content after these steps, where `zeros` is a block
+// of zeros.
 fn has_content(image: &[Bytes], before: &[Step], step: &Step, zeros: &[u8]) -> bool
     requires zero { zeros.now ≡ replicate (length zeros.now) 0 }
     requires size { length zeros.now ≡ length (block_at image.now step.now.block) }
-    ensures { result ≡ bytes_eq step.now.bytes (changed (length (block_at image.now step.now.block)) (changes_of before.now) step.now.block (block_at image.now step.now.block)) }
+    ensures { result
+        ≡ bytes_eq step.now.bytes (changed (length (block_at image.now step.now.block))
+        (changes_of before.now) step.now.block (block_at image.now step.now.block)) }
 {
     let now = block_of(image, step.block);
     is_content(before, step.block, now, zeros, step.bytes.as_slice())
@@ -80,7 +87,8 @@ fn zeros(alloc: Global, n: usize) -> Result<Vec<u8>, Oom>
 // Whether a step after these is no good read, or has the content of its block.
 #[tactic(auto, using(crate::proofs::LegalLemmas::zeros_are, crate::proofs::LegalLemmas::zeros_length))]
 fn reads_rightly(alloc: Global, image: &[Bytes], before: &[Step], step: &Step) -> Result<bool, Oom>
-    ensures { IfOk result (λ b. b ≡ reads_after image.now (changes_of before.now) (change_of step.now)) }
+    ensures { IfOk result
+        (λ b. b ≡ reads_after image.now (changes_of before.now) (change_of step.now)) }
 {
     if step.faulted {
         return Ok(true);
@@ -98,7 +106,8 @@ fn reads_rightly(alloc: Global, image: &[Bytes], before: &[Step], step: &Step) -
 
 // Whether each step is.
 fn all_read_rightly(alloc: Global, image: &[Bytes], steps: &[Step]) -> Result<bool, Oom>
-    ensures { IfOk result (λ b. b ≡ list_all (reads_content image.now (changes_of steps.now)) (below (length steps.now))) }
+    ensures { IfOk result (λ b.
+        b ≡ list_all (reads_content image.now (changes_of steps.now)) (below (length steps.now))) }
 {
     let mut all = true;
     for i in 0..steps.len() {

@@ -1,5 +1,5 @@
-//! The plain judge: for each definition of what is lawful a function that computes it. It is slow, takes memory as it
-//! likes, and shares nothing with the server.
+//! The plain judge: for each definition of what is lawful a function that computes it. It is slow,
+//! takes memory as it likes, and shares nothing with the server.
 #![tactic(auto)]
 
 mod closing;

@@ -84,7 +84,10 @@ pub fn had_each(
     rows: &[TakenRow],
     r: usize,
 ) -> Result<Vec<bool>, AllocError>
-    ensures { IfOk result (λ v. v.items ≡ map (λ m. had_by (requests (take m log.now)) (take m log.now) rows.now r) (below (length log.now + 1))) }
+    ensures { IfOk result (λ v.
+        v.items
+        ≡ map (λ m. had_by (requests (take m log.now)) (take m log.now) rows.now r)
+        (below (length log.now + 1))) }
 {
     let mut list = Vec::new(alloc);
     for m in 0..log.len() {

@@ -36,7 +36,8 @@ pub struct RunParts {
 impl SessionParts {
     /// Whether all of them are.
     pub fn are_whole(self) -> bool
-        ensures { result ≡ (self.taken && self.carried && self.answered && self.buffers && self.ordered) }
+        ensures { result
+            ≡ (self.taken && self.carried && self.answered && self.buffers && self.ordered) }
     {
         self.taken && self.carried && self.answered && self.buffers && self.ordered
     }
@@ -45,7 +46,9 @@ impl SessionParts {
 impl RunParts {
     /// Whether all of them are.
     pub fn are_whole(self) -> bool
-        ensures { result ≡ (self.numbers && self.sessions && self.closing && self.legal && self.frames && self.home) }
+        ensures { result
+            ≡ (self.numbers && self.sessions && self.closing && self.legal && self.frames
+            && self.home) }
     {
         self.numbers && self.sessions && self.closing && self.legal && self.frames && self.home
     }

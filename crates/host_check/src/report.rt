@@ -2,7 +2,7 @@
 ghost use Rattle.std.specs.Prelude.{◌≡◌, ◌↔◌, ◌++◌, IsTrue, filter, length, IfOk};
 ghost use Rattle.host_gpt.specs.Entries.{AreUsed};
 ghost use Rattle.host_gpt.specs.Table.{IsTable};
-ghost use Rattle.host_check.specs.Parts.{TellsRun};
+ghost use Rattle.host_check.specs.Parts.{TellsParts};
 ghost use Rattle.host_report.specs.Lawful.{IsLawful, IsLawfulRun, closing_steps, is_of_sessions};
 
 use crate::closing::ends_with_closing;
@@ -18,7 +18,11 @@ use std::alloc::Global;
 
 // Whether the steps are those of the sessions and then the closing flush.
 fn is_closed_rightly(alloc: Global, report: &Report) -> Result<bool, Oom>
-    ensures { IfOk result (λ b. IsTrue b ↔ (report.now.steps.items ≡ filter (is_of_sessions (length report.now.sessions.items)) report.now.steps.items ++ closing_steps report.now.closing)) }
+    ensures { IfOk result (λ b.
+        IsTrue b
+        ↔ (report.now.steps.items
+        ≡ filter (is_of_sessions (length report.now.sessions.items)) report.now.steps.items
+        ++ closing_steps report.now.closing)) }
 {
     let n = report.sessions.len() as usize;
     let closed = ends_with_closing(alloc, report.steps.as_slice(), n, report.closing)?;
@@ -33,7 +37,7 @@ fn are_home(report: &Report) -> bool
 
 /// Which parts of the run are as they have to be.
 pub fn run_parts(alloc: Global, image: &[Bytes], report: &Report) -> Result<RunParts, Oom>
-    ensures { IfOk result (TellsRun image.now report.now) }
+    ensures { IfOk result (TellsParts image.now report.now) }
 {
     let sessions = report.sessions.as_slice();
     let lawful = are_lawful(alloc, report, sessions)?;
@@ -65,7 +69,8 @@ pub fn is_lawful(
     table: &Table,
     report: &Report,
 ) -> Result<bool, Oom>
-    requires table { IsTable image.now table.now.which table.now.disk_id table.now.first_usable table.now.last_usable table.now.entries.items }
+    requires table { IsTable image.now table.now.which table.now.disk_id table.now.first_usable
+        table.now.last_usable table.now.entries.items }
     requires entries { AreUsed table.now.entries.items }
     ensures { IfOk result (λ b. IsTrue b ↔ IsLawful image.now report.now) }
 {

@@ -27,7 +27,8 @@ fn numbers_count_from(sessions: &[SessionReport], n: u64) -> bool
 /// Whether the sessions are numbered from 1.
 #[tactic(auto, using(crate::proofs::RunLemmas::numbers_are))]
 pub fn are_numbered(sessions: &[SessionReport]) -> bool
-    ensures { IsTrue result ↔ (map (λ s. s.number) sessions.now ≡ range_with_len 1 (length sessions.now)) }
+    ensures { IsTrue result
+        ↔ (map (λ s. s.number) sessions.now ≡ range_with_len 1 (length sessions.now)) }
 {
     numbers_count_from(sessions, 1)
 }
@@ -56,7 +57,8 @@ pub fn is_lawful_in(alloc: Global, report: &Report, s: &SessionReport) -> Result
 
 /// Whether all of them are.
 pub fn are_lawful(alloc: Global, report: &Report, sessions: &[SessionReport]) -> Result<bool, Oom>
-    ensures { IfOk result (λ b. IsTrue b ↔ AllByRecursion (λ s. IsLawfulSession (session_of report.now s)) sessions.now) }
+    ensures { IfOk result (λ b.
+        IsTrue b ↔ AllByRecursion (λ s. IsLawfulSession (session_of report.now s)) sessions.now) }
 {
     match sessions {
         [] => Ok(true),

@@ -26,7 +26,8 @@ fn order_is_kept(
     history: &[MemEvent],
     steps: &[Step],
 ) -> Result<bool, Oom>
-    ensures { IfOk result (λ b. b ≡ is_order_kept rs.now verdicts.now log.now rows.now steps.now history.now) }
+    ensures { IfOk result
+        (λ b. b ≡ is_order_kept rs.now verdicts.now log.now rows.now steps.now history.now) }
 {
     let n = sent_count(log);
     let records = all_ordered(alloc, rs, verdicts, log, rows, steps, history, n)?;
@@ -45,7 +46,9 @@ pub fn keeps_order(
     steps: &[Step],
     finish: Finish,
 ) -> Result<bool, Oom>
-    ensures { IfOk result (λ b. IsTrue b ↔ KeepsOrder (session_with size part.now log.now rows.now history.now steps.now finish)) }
+    ensures { IfOk result (λ b.
+        IsTrue b
+        ↔ KeepsOrder (session_with size part.now log.now rows.now history.now steps.now finish)) }
 {
     let Ok(rs) = requests_sent(alloc, log) else {
         return Err(Oom);
@@ -57,8 +60,9 @@ pub fn keeps_order(
     Ok(kept)
 }
 
-/// Which parts of a session with these lists are as they have to be: the bytes of a block, the partition, the client's
-/// log, the records taken, what was done to the buffers, the device's steps for the session, and how it was ended.
+/// Which parts of a session with these lists are as they have to be: the bytes of a block, the
+/// partition, the client's log, the records taken, what was done to the buffers, the device's steps
+/// for the session, and how it was ended.
 pub fn parts_of_lists(
     alloc: Global,
     size: u32,
@@ -69,7 +73,8 @@ pub fn parts_of_lists(
     steps: &[Step],
     finish: Finish,
 ) -> Result<SessionParts, Oom>
-    ensures { IfOk result (TellsSession (session_with size part.now log.now rows.now history.now steps.now finish)) }
+    ensures { IfOk result (TellsSession
+        (session_with size part.now log.now rows.now history.now steps.now finish)) }
 {
     let Ok(taken) = is_taken_in_order(alloc, size, part, log, rows, history, steps, finish) else {
         return Err(Oom);

@@ -5,13 +5,10 @@ use Rattle.std.proofs.Props.{props}
 use Rattle.std.proofs.lemmas.Bool.{cases_eq}
 use Rattle.std.proofs.lemmas.Slice.Eq.{bytes_eq-Decides}
 use Rattle.std.specs.Str.{bytes_eq}
-use Rattle.host_block.specs.Disk.{DiskState, read, done, DiskCall, IsCrashOf}
-use Rattle.host_block.specs.Changes.{Change, content, barrier}
-use Rattle.host_block.specs.Crash.{IsVersion, IsCrashImage, Keeps}
-use Rattle.host_block.specs.Laws.{LeadThrough}
+use Rattle.host_block.specs.{DiskState, read, done, DiskCall, IsCrashOf, Change, content, barrier, IsVersion, IsCrashImage, Keeps, LeadThrough}
 use Rattle.host_block.proofs.ChangeLemmas.{barrier_le}
 use Rattle.host_block.proofs.KeptLemmas.{crash_inside_call_proof}
-use Rattle.host_device.specs.Crashes.{CrashesLeave}
+use Rattle.host_device.specs.{CrashesLeave}
 
 -- ---- a place that is known to be there is found
 

@@ -3,27 +3,13 @@ use Rattle.std.proofs.Common.{◌≡◌, ℕ, ◌<◌, false, IsTrue, Result, Ok
 use Rattle.std.proofs.lemmas.List.{map-append}
 use Rattle.std.proofs.lemmas.List.Elements.{All-from_get_or}
 use Rattle.std.specs.Prelude.{OnOk}
-use Rattle.host_block.specs.declared.op.Op.{Op}
-use Rattle.host_block.specs.declared.op.Op.TheVariants.{Flush}
-use Rattle.host_block.specs.Changes.{Change, is_flush}
-use Rattle.host_block.specs.Crash.{IsCrashImage, IsCurrent, Keeps}
-use Rattle.host_block.specs.Disk.{DiskState, block_at, IsCrashOf, IsImage, IsOfSize}
-use Rattle.host_log.specs.Switch.{SwitchedLog}
-use Rattle.host_io.specs.Disks.{Shape}
+use Rattle.host_block.specs.{Op, Flush, Change, is_flush, IsCrashImage, IsCurrent, Keeps, DiskState, block_at, IsCrashOf, IsImage, IsOfSize}
+use Rattle.host_log.specs.{SwitchedLog}
+use Rattle.host_io.specs.{Shape}
 use Rattle.host_io.specs.declared.disk.Disk as disk
-use Rattle.host_cache.specs.Seen.{shape_of}
-use Rattle.host_cache.specs.declared.cache.Cache.{Cache}
-use Rattle.host_model.specs.declared.step.Step.{Step}
-use Rattle.host_model.specs.Changes.{change_of, changes_of}
-use Rattle.host_device.specs.declared.device.Device.{Device}
-use Rattle.host_device.specs.declared.error.StepError.{StepError}
-use Rattle.host_device.specs.declared.steps.Owner.{Owner}
-use Rattle.host_device.specs.Answers.{entry_for}
-use Rattle.host_device.specs.CacheSteps.{CallsCache, HasContentBy, AreGiven}
-use Rattle.host_device.specs.Calls.{IsCacheCall}
-use Rattle.host_device.specs.Crashes.{CrashesLeave}
-use Rattle.host_device.specs.Entries.{IsOnDisk, entries_added}
-use Rattle.host_device.specs.Seen.{cache_of, image_of, history_of}
+use Rattle.host_cache.specs.{shape_of, Cache}
+use Rattle.host_model.specs.{Step, change_of, changes_of}
+use Rattle.host_device.specs.{Device, StepError, Owner, step_entry, CallsCache, HasContentBy, AreGiven, IsCacheCall, CrashesLeave, IsOnDisk, entries_added, cache_of, image_of, history_of}
 use Rattle.host_device.proofs.CrashLemmas.{keeps_there, crash_kept, crashes_along}
 use Rattle.host_device.proofs.HistoryLemmas.{crash_after_flush_proof}
 use Rattle.host_device.proofs.StepLemmas.{Told, step_told, along}
@@ -57,21 +43,21 @@ module _ {D : Type 0} {g : disk.Ghosts D} (of_size : (d : D) → IsTrue (g.shape
           crashes_along (image_of device) (history_of device) ran.runs.calls (g.state (cache_of device).disk) (g.state new.disk)
           (along (image_of device) (history_of device) op b given (cache_of device) new told blocks_are sized on told_of answer ran)
 
-      pub stepped : (steps : SwitchedLog Step) → steps ≡ record { items = device.steps.items ++ entries_added answer (entry_for owner op b given); room = device.steps.room; kept = device.steps.kept }
-          → AreGiven (changes_of (entries_added answer (entry_for owner op b given))) (cache_of device) → HasContentBy (changes_of (entries_added answer (entry_for owner op b given))) (cache_of device) new
+      pub stepped : (steps : SwitchedLog Step) → steps ≡ record { items = device.steps.items ++ entries_added answer (step_entry owner op b given); room = device.steps.room; kept = device.steps.kept }
+          → AreGiven (changes_of (entries_added answer (step_entry owner op b given))) (cache_of device) → HasContentBy (changes_of (entries_added answer (step_entry owner op b given))) (cache_of device) new
           → Told (image_of device) (changes_of steps.items) new
       stepped steps entry gives content =
-          let added = entries_added answer (entry_for owner op b given) in
+          let added = entries_added answer (step_entry owner op b given) in
           let longer : changes_of steps.items ≡ history_of device ++ changes_of added = ap (λ (s : SwitchedLog Step). changes_of s.items) entry ∙ map-append change_of device.steps.items added in
           subst (λ (h : List Change). Told (image_of device) h new) (sym longer)
           (step_told (image_of device) (history_of device) op b given (cache_of device) new told blocks_are sized on told_of owner.hand owner.session owner.index owner.k answer ran gives content)
 
 -- after a flush that didn't fail a crash leaves the content
 pub flushed : (image : List (List ℕ)) (history after : List Change) (s : DiskState) (told : Type 0) (op : Op) (b : ℕ) (given : List ℕ) (owner : Owner) (answer : Result Unit StepError)
-    → after ≡ history ++ changes_of (entries_added answer (entry_for owner op b given)) → (told → Keeps image after s)
+    → after ≡ history ++ changes_of (entries_added answer (step_entry owner op b given)) → (told → Keeps image after s)
     → OnOk answer (op ≡ Flush → told → (left : List (List ℕ)) → IsCrashOf s left → IsCurrent image after (block_at left))
 flushed image history after s told op b given owner (Err e) longer keeps = tt
 flushed image history after s told op b given owner (Ok x) longer keeps = λ is t left crash.
-    let flush = change_of (entry_for owner op b given false) in
+    let flush = change_of (step_entry owner op b given false) in
     subst (λ (h : List Change). IsCurrent image h (block_at left)) (sym longer)
     (crash_after_flush_proof image history flush left (ap is_flush is) (subst (λ (h : List Change). IsCrashImage image h left) longer (crash_kept image after s left (keeps t) crash)))

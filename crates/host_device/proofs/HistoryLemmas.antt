@@ -1,35 +1,22 @@
 -- What one more change makes of a history.
-use Rattle.std.proofs.Common.{◌≡◌, ◌⊎◌, inl, inr, ⊎_elim, ℕ, zero, suc, ◌+◌, ◌<◌, Bool, true, false, IsTrue, Option, Some, None, List, [], ◌∷◌, ◌++◌, length, refl, sym, ◌∙◌, ap, subst, arith}
-use Rattle.std.specs.Prelude.{not, ◌&&◌, slice_get, replicate, if◌then◌else◌}
+use Rattle.std.proofs.Common.{◌≡◌, inl, inr, ℕ, ◌+◌, ◌<◌, Bool, true, false, IsTrue, List, [], ◌∷◌, ◌++◌, length, refl, sym, ◌∙◌, ap, subst, arith}
+use Rattle.std.specs.Prelude.{not, ◌&&◌, replicate, if◌then◌else◌}
 use Rattle.std.proofs.lemmas.List.{length_push}
 use Rattle.std.proofs.lemmas.Option.{slice_get_within}
-use Rattle.host_block.specs.declared.op.Op.{Op}
-use Rattle.host_block.specs.declared.op.Op.TheVariants.{Read, Write, Trim, Flush}
-use Rattle.host_block.specs.Disk.{DiskState, block_at, Outcome, done, DiskCall, LeadAll}
-use Rattle.host_block.specs.Changes.{Change, is_read, changes_block, put_by, changed, content, IsLegal, is_barrier, barrier}
-use Rattle.host_block.specs.Crash.{IsCurrent, Keeps}
-use Rattle.host_block.specs.Laws.{LeadThrough}
+use Rattle.host_block.specs.{Op, Read, Write, Trim, Flush, DiskState, block_at, Outcome, done, DiskCall, LeadAll, Change, is_read, changes_block, put_by, changed, content, IsLegal, is_barrier, barrier, IsCurrent, Keeps, LeadThrough}
 use Rattle.host_block.proofs.ChangeLemmas.{content_earlier, content_push, barrier_push_flush}
 use Rattle.host_block.proofs.KeptLemmas.{change_keeps_proof}
 use Rattle.host_cache.specs.Held.{Held}
-use Rattle.host_cache.specs.Calls.{IsFlush}
-use Rattle.host_cache.specs.Laws.{IsOver}
+use Rattle.host_cache.specs.{IsFlush, IsHeldOver}
 use Rattle.host_cache.proofs.LawLemmas.{read_survives_proof, write_survives_proof, flush_survives_proof, flush_is_kept_proof, last_keeps}
-use Rattle.host_device.specs.Calls.{IsCacheCall}
-use Rattle.host_device.specs.Laws.{CrashInsideStep, CrashAfterFlush}
+use Rattle.host_device.specs.{IsCacheCall, CrashInsideStep, CrashAfterFlush}
 use Rattle.host_device.proofs.CrashLemmas.{crashes_along}
-
--- an element of a longer list stood there, or is the new one
-slice_get_push : {A : Type 0} (xs : List A) (x y : A) (p : ℕ) → slice_get (xs ++ x ∷ []) p ≡ Some y → (slice_get xs p ≡ Some y) ⊎ ((p ≡ length xs) × (x ≡ y))
-slice_get_push [] x y zero at = inr (refl, cc)
-slice_get_push [] x y (suc p) at = let wrong : ◌≡◌ {A = Option _} None (Some y) = at in cc
-slice_get_push (z ∷ zs) x y zero at = inl at
-slice_get_push (z ∷ zs) x y (suc p) at = ⊎_elim (λ old. inl old) (λ new. inr (ap suc new.0, new.1)) (slice_get_push zs x y p at)
+use Rattle.host_log.proofs.Places.{get_snoc}
 
 module _ (image : List (List ℕ)) (history : List Change) where
   pub legal_push : (c : Change) → IsLegal image history → (IsTrue (is_read c.op && not c.faulted) → c.bytes ≡ content image history (length history) c.block) → IsLegal image (history ++ c ∷ [])
   legal_push c legal gives p d at reads =
-      elim (slice_get_push history c d p at) [
+      elim (get_snoc history c d p at) [
         | inl old ↦ legal p d old reads ∙ sym (content_earlier image history c p d.block (let within = slice_get_within history p d old in omega (arith, within)))
         | inr new ↦
             let here : c.bytes ≡ content image history (length history) c.block = gives (subst (λ (e : Change). IsTrue (is_read e.op && not e.faulted)) (sym new.1) reads) in
@@ -55,7 +42,7 @@ module _ (image : List (List ℕ)) (history : List Change) where
   -- ---- the calls of a step
 
   pub step_survives : (op : Op) (size b : ℕ) (bytes : List ℕ) (old new : Held) (calls : List DiskCall) (outcome : Outcome) (s t : DiskState)
-      → IsOver image history size old s → IsCacheCall op (length image) size b bytes old calls outcome new → LeadAll calls s t → LeadThrough (Keeps image history) calls s t
+      → IsHeldOver image history size old s → IsCacheCall op (length image) size b bytes old calls outcome new → LeadAll calls s t → LeadThrough (Keeps image history) calls s t
   step_survives Read size b bytes old new calls outcome s t over rule lead = read_survives_proof image b bytes history size old new calls outcome s t over rule lead
   step_survives Write size b bytes old new calls outcome s t over rule lead = write_survives_proof image b bytes history size old new calls outcome s t over rule lead
   step_survives Trim size b bytes old new calls outcome s t over rule lead = write_survives_proof image b (replicate size 0) history size old new calls outcome s t over rule lead
@@ -67,7 +54,7 @@ module _ (image : List (List ℕ)) (history : List Change) where
   change op block entered faulted = record { op = op; block = block; bytes = entered; faulted = faulted }
 
   other_kept : (op : Op) (size b : ℕ) (bytes : List ℕ) (old new : Held) (calls : List DiskCall) (outcome : Outcome) (s t : DiskState)
-      → IsOver image history size old s → IsCacheCall op (length image) size b bytes old calls outcome new → LeadAll calls s t
+      → IsHeldOver image history size old s → IsCacheCall op (length image) size b bytes old calls outcome new → LeadAll calls s t
       → (c : Change) → is_barrier c ≡ false → Keeps image (history ++ c ∷ []) t
   other_kept op size b bytes old new calls outcome s t over rule lead c other =
       change_keeps_proof image history c t (last_keeps image history size calls s t (step_survives op size b bytes old new calls outcome s t over rule lead)) other
@@ -77,13 +64,13 @@ module _ (image : List (List ℕ)) (history : List Change) where
   no_barrier false = refl
 
   flush_kept : (size : ℕ) (old new : Held) (calls : List DiskCall) (outcome : Outcome) (s t : DiskState)
-      → IsOver image history size old s → IsFlush (length image) old calls outcome new → LeadAll calls s t → outcome ≡ done
+      → IsHeldOver image history size old s → IsFlush (length image) old calls outcome new → LeadAll calls s t → outcome ≡ done
       → (block : ℕ) (entered : List ℕ) → Keeps image (history ++ change Flush block entered false ∷ []) t
   flush_kept size old new calls outcome s t over rule lead is block entered =
       flush_is_kept_proof image history (change Flush block entered false) size old new calls s t over refl (subst (λ (o : Outcome). IsFlush (length image) old calls o new) is rule) lead
 
   pub step_kept : (op : Op) (size b : ℕ) (bytes : List ℕ) (old new : Held) (calls : List DiskCall) (outcome : Outcome) (s t : DiskState)
-      → IsOver image history size old s → IsCacheCall op (length image) size b bytes old calls outcome new → LeadAll calls s t
+      → IsHeldOver image history size old s → IsCacheCall op (length image) size b bytes old calls outcome new → LeadAll calls s t
       → (block : ℕ) (entered : List ℕ) (faulted : Bool) → (faulted ≡ false → outcome ≡ done) → Keeps image (history ++ change op block entered faulted ∷ []) t
   step_kept Read size b bytes old new calls outcome s t over rule lead block entered faulted ended = other_kept Read size b bytes old new calls outcome s t over rule lead (change Read block entered faulted) (no_barrier faulted)
   step_kept Write size b bytes old new calls outcome s t over rule lead block entered faulted ended = other_kept Write size b bytes old new calls outcome s t over rule lead (change Write block entered faulted) (no_barrier faulted)

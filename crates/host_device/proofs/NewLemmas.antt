@@ -1,13 +1,10 @@
 -- A device with no entry yet.
 use Rattle.std.proofs.Common.{◌≡◌, ⊎_elim, ℕ, Some, None, Option, List, [], refl, sym, ◌∙◌, ap, subst, arith}
 use Rattle.std.specs.Prelude.{Contains}
-use Rattle.host_block.specs.Disk.{DiskState, block_at, overwritten}
-use Rattle.host_block.specs.Changes.{Change, IsLegal}
-use Rattle.host_block.specs.Crash.{IsVersion, Keeps}
+use Rattle.host_block.specs.{DiskState, block_at, overwritten, Change, IsLegal, IsVersion, Keeps}
 use Rattle.host_io.specs.declared.disk.Disk as disk
-use Rattle.host_cache.specs.Held.{Held, cached}
-use Rattle.host_cache.specs.Seen.{disk_of, held_of}
-use Rattle.host_cache.specs.declared.cache.Cache.{Cache}
+use Rattle.host_cache.specs.Held.{Held}
+use Rattle.host_cache.specs.{cached, disk_of, held_of, Cache}
 use Rattle.host_device.proofs.StepLemmas.{Told}
 
 legal_none : (image : List (List ℕ)) → IsLegal image []

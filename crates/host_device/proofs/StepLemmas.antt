@@ -1,25 +1,12 @@
 -- What a step keeps of a device.
 use Rattle.std.proofs.Common.{◌≡◌, ℕ, ◌<◌, Bool, true, false, IsTrue, Result, Ok, Err, List, [], ◌∷◌, ◌++◌, length, sym, ◌∙◌, subst, arith, append-nil}
 use Rattle.std.specs.Prelude.{not, ◌&&◌}
-use Rattle.host_block.specs.declared.op.Op.{Op}
-use Rattle.host_block.specs.declared.op.Op.TheVariants.{Read, Write, Trim, Flush}
-use Rattle.host_block.specs.Disk.{block_at, done}
-use Rattle.host_block.specs.Changes.{Change, is_read, IsLegal}
-use Rattle.host_block.specs.Crash.{IsCurrent, Keeps}
-use Rattle.host_block.specs.Laws.{LeadThrough}
+use Rattle.host_block.specs.{Op, Read, Write, Trim, Flush, block_at, done, Change, is_read, IsLegal, IsCurrent, Keeps, LeadThrough}
 use Rattle.host_io.specs.declared.disk.Disk as disk
-use Rattle.host_cache.specs.Calls.{Rule}
-use Rattle.host_cache.specs.Kept.{IsKept}
-use Rattle.host_cache.specs.Laws.{IsOver}
-use Rattle.host_cache.specs.Seen.{disk_of, shape_of, held_of, content_of}
-use Rattle.host_cache.specs.declared.cache.Cache.{Cache}
+use Rattle.host_cache.specs.{Rule, IsCacheKept, IsHeldOver, disk_of, shape_of, held_of, content_of, Cache}
 use Rattle.host_cache.proofs.LawLemmas.{last_keeps}
-use Rattle.host_model.specs.Changes.{changes_of}
-use Rattle.host_device.specs.declared.error.StepError.{StepError}
-use Rattle.host_device.specs.declared.error.StepError.TheVariants.{Fault, Oom}
-use Rattle.host_device.specs.CacheSteps.{CallsCache, HasContentBy, AreGiven}
-use Rattle.host_device.specs.Calls.{IsCacheCall}
-use Rattle.host_device.specs.Entries.{IsOnDisk, entry_bytes, entry_of, entries_added}
+use Rattle.host_model.specs.{changes_of}
+use Rattle.host_device.specs.{StepError, Fault, Oom, CallsCache, HasContentBy, AreGiven, IsCacheCall, IsOnDisk, entry_bytes, step_made, entries_added}
 use Rattle.host_device.proofs.HistoryLemmas.{legal_push, current_push, current_same, step_survives, step_kept}
 
 -- a read is of a block of the disk
@@ -37,10 +24,10 @@ module _ {D : Type 0} {g : disk.Ghosts D} where
     pub keeps : Keeps image history (g.state (disk_of cache))
 
   pub over_of : (image : List (List ℕ)) (history : List Change) (cache : Cache D g) → IsTrue (shape_of cache).tells → length image ≡ (shape_of cache).blocks
-      → Told image history cache → IsOver image history (shape_of cache).size (held_of cache) (g.state (disk_of cache))
+      → Told image history cache → IsHeldOver image history (shape_of cache).size (held_of cache) (g.state (disk_of cache))
   over_of image history cache told blocks facts = record {
     keeps = facts.keeps;
-    kept = subst (λ (n : ℕ). IsKept n (shape_of cache).size (held_of cache)) (sym blocks) cache.kept;
+    kept = subst (λ (n : ℕ). IsCacheKept n (shape_of cache).size (held_of cache)) (sym blocks) cache.kept;
     clean = cache.clean told;
     current = facts.current;
   }
@@ -50,7 +37,7 @@ module _ {D : Type 0} {g : disk.Ghosts D} where
     abbrev rule : ℕ → Rule
     rule n = IsCacheCall op n (shape_of old).size b given
 
-    over : IsOver image history (shape_of old).size (held_of old) (g.state (disk_of old))
+    over : IsHeldOver image history (shape_of old).size (held_of old) (g.state (disk_of old))
     over = over_of image history old told blocks facts
 
     -- each state along the disk calls keeps the history
@@ -81,9 +68,9 @@ module _ {D : Type 0} {g : disk.Ghosts D} where
     }
 
     pub step_told : (hand session index k : ℕ) (answer : Result Unit StepError) → CallsCache (rule (shape_of old).blocks) old answer new
-        → AreGiven (changes_of (entries_added answer (entry_of hand session index k op b given))) old
-        → HasContentBy (changes_of (entries_added answer (entry_of hand session index k op b given))) old new
-        → Told image (history ++ changes_of (entries_added answer (entry_of hand session index k op b given))) new
+        → AreGiven (changes_of (entries_added answer (step_made hand session index k op b given))) old
+        → HasContentBy (changes_of (entries_added answer (step_made hand session index k op b given))) old new
+        → Told image (history ++ changes_of (entries_added answer (step_made hand session index k op b given))) new
     step_told hand session index k (Ok x) ran gives content = one_told (Ok x) false ran (λ is. ran.ended) (entry_bytes op given false) gives content
     step_told hand session index k (Err Fault) ran gives content = one_told (Err Fault) true ran (λ is. let wrong : ◌≡◌ {A = Bool} true false = is in cc) (entry_bytes op given true) gives content
     step_told hand session index k (Err Oom) ran gives content = subst (λ (h : List Change). Told image h new) (sym (append-nil history)) (none_told (Err Oom) ran content)

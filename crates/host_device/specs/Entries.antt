@@ -1,5 +1,6 @@
 -- The entry of a step, and what a step asks for.
-use Rattle.std.specs.Prelude.{◌≡◌, ℕ, ◌<◌, Bool, true, false, Result, Ok, Err, List, [], ◌∷◌, if◌then◌else◌}
+use Rattle.std.specs.Prelude.{◌≡◌, ℕ, ◌<◌, Bool, true, false, Result, Ok, Err, List, [], ◌∷◌}
+use Rattle.std.specs.Prelude.{if◌then◌else◌}
 use Rattle.host_block.specs.declared.op.Op.{Op}
 use Rattle.host_block.specs.declared.op.Op.TheVariants.{Read, Write, Trim, Flush}
 use Rattle.host_model.specs.declared.step.Step.{Step}
@@ -28,9 +29,18 @@ entry_bytes Trim bytes faulted = []
 entry_bytes Flush bytes faulted = []
 
 -- the entry of a step over these bytes
-abbrev pub entry_of : ℕ → ℕ → ℕ → ℕ → Op → ℕ → List ℕ → Bool → Step
-entry_of hand session index k op b bytes faulted =
-    record { hand = hand; session = session; index = index; k = k; op = op; block = b; bytes = entry_bytes op bytes faulted; faulted = faulted }
+abbrev pub step_made : ℕ → ℕ → ℕ → ℕ → Op → ℕ → List ℕ → Bool → Step
+step_made hand session index k op b bytes faulted =
+    record {
+      hand = hand;
+      session = session;
+      index = index;
+      k = k;
+      op = op;
+      block = b;
+      bytes = entry_bytes op bytes faulted;
+      faulted = faulted;
+    }
 
 -- the answer of a read without the bytes that it gave
 abbrev pub answer_alone : {A : Type 0} → Result A StepError → Result Unit StepError

@@ -36,7 +36,13 @@ module _ {D : Type 0} {g : disk.Ghosts D} where
 
   -- what never changes of a device
   abbrev pub fixed_of : Device D g → DeviceFixed D
-  fixed_of device = record { blocks = (shape_of device).blocks; size = (shape_of device).size; opening = device.opening; keeps = device.steps.kept }
+  fixed_of device =
+      record {
+        blocks = (shape_of device).blocks;
+        size = (shape_of device).size;
+        opening = device.opening;
+        keeps = device.steps.kept;
+      }
 
   -- the entries, oldest first, and how many there is room for in all
   abbrev pub steps_of : Device D g → SwitchedLog Step
@@ -50,21 +56,30 @@ module _ {D : Type 0} {g : disk.Ghosts D} where
   abbrev pub image_of : Device D g → List (List ℕ)
   image_of device = (g.state device.opening.value).durable
 
-  -- What a device keeps over a disk that tells: its history is legal, the content of its cache is that after the history,
-  -- and a crash leaves an image that the history allows.
+  -- What a device keeps over a disk that tells: its history is legal, the content of its cache is
+  -- that after the history, and a crash leaves an image that the history allows.
   pub record KeepsHistory (device : Device D g) : Type 0 where
     pub blocks : length (image_of device) ≡ (shape_of device).blocks
     pub size : IsImage (shape_of device).size (image_of device)
     pub legal : IsLegal (image_of device) (history_of device)
     pub current : IsCurrent (image_of device) (history_of device) (content_of device.cache)
-    pub crashes : (left : List (List ℕ)) → IsCrashOf (g.state (disk_of device)) left → IsCrashImage (image_of device) (history_of device) left
+    pub crashes : (left : List (List ℕ)) → IsCrashOf (g.state (disk_of device)) left
+        → IsCrashImage (image_of device) (history_of device) left
 
-  -- The cache was called as the op names, and no more, whatever the step answered. Where the disk tells, a crash before,
-  -- between, inside or after the disk calls leaves an image that the history before the step allows.
-  pub record IsStep (op : Op) (b : ℕ) (bytes : List ℕ) (old : Device D g) (answer : Result Unit StepError) (new : Device D g) : Type 0 where
-    pub called : CallsCache (IsCacheCall op (shape_of old).blocks (shape_of old).size b bytes) old.cache answer new.cache
-    pub crashes : IsTrue (shape_of old).tells → CrashesLeave (IsCrashImage (image_of old) (history_of old)) called.runs.calls (g.state (disk_of old)) (g.state (disk_of new))
+  -- The cache was called as the op names, and no more, whatever the step answered. Where the disk
+  -- tells, a crash before, between, inside or after the disk calls leaves an image that the history
+  -- before the step allows.
+  pub record IsStep (op : Op) (b : ℕ) (bytes : List ℕ) (old : Device D g)
+      (answer : Result Unit StepError) (new : Device D g) : Type 0 where
+    pub called : CallsCache (IsCacheCall op (shape_of old).blocks (shape_of old).size b bytes)
+        old.cache answer new.cache
+    pub crashes : IsTrue (shape_of old).tells
+        → CrashesLeave (IsCrashImage (image_of old) (history_of old)) called.runs.calls
+        (g.state (disk_of old)) (g.state (disk_of new))
 
   -- what a crash leaves is the content, in every block
   abbrev pub LosesNothing : Device D g → Type 0
-  LosesNothing device = IsTrue (shape_of device).tells → (left : List (List ℕ)) → IsCrashOf (g.state (disk_of device)) left → IsCurrent (image_of device) (history_of device) (block_at left)
+  LosesNothing device =
+      IsTrue (shape_of device).tells → (left : List (List ℕ))
+      → IsCrashOf (g.state (disk_of device)) left
+      → IsCurrent (image_of device) (history_of device) (block_at left)

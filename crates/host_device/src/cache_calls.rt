@@ -1,11 +1,13 @@
 // The call of the cache that a step makes, and what is entered of it.
-ghost use Rattle.std.specs.Prelude.{◌≡◌, ◌<◌, ℕ, List, length, false, IfOk, OnErr, IsErrOf, MatchResult};
+ghost use Rattle.std.specs.Prelude.{◌≡◌, ◌<◌, ℕ, List, length, false, IfOk, OnErr, IsErrOf};
+ghost use Rattle.std.specs.Prelude.{MatchResult};
 ghost use Rattle.host_block.specs.declared.op.Op.TheVariants.{Read, Write, Trim, Flush};
 ghost use Rattle.host_block.specs.Disk.{refused};
 ghost use Rattle.host_block.specs.Changes.{is_read};
-ghost use Rattle.host_cache.specs.Outcomes.{outcome_of};
+ghost use Rattle.host_cache.specs.Outcomes.{cache_outcome};
 ghost use Rattle.host_cache.specs.Seen.{shape_of, HasFaulted};
-ghost use Rattle.host_device.specs.Answers.{ended, answer_of, change_by, changes_by, stored_of};
+ghost use Rattle.host_device.specs.Answers.{step_outcome, step_answer, change_by, changes_by};
+ghost use Rattle.host_device.specs.Answers.{stored_of};
 ghost use Rattle.host_device.specs.CacheSteps.{CallsCache, HasContentBy, GivesContent};
 ghost use Rattle.host_device.specs.Calls.{IsCacheCall};
 ghost use Rattle.host_device.specs.Entries.{IsOnDisk, IsPiece, entry_bytes};
@@ -33,7 +35,8 @@ pub struct BlockRead {
 
 // Whether a call of the cache failed, where it wasn't refused memory.
 fn faulted_by(answer: Result<(), CacheError>) -> Result<bool, Oom>
-    ensures { MatchResult result (λ faulted. outcome_of answer ≡ ended faulted) (λ _. outcome_of answer ≡ refused) }
+    ensures { MatchResult result (λ faulted. cache_outcome answer ≡ step_outcome faulted)
+        (λ _. cache_outcome answer ≡ refused) }
 {
     match answer {
         Ok(()) => Ok(false),
@@ -65,13 +68,17 @@ pub fn read<D: Disk>(
 ) -> Result<BlockRead, Oom>
     requires block { b < (shape_of cache.old).blocks }
     requires piece { length into.old ≡ (shape_of cache.old).size }
-    ensures calls { CallsCache (IsCacheCall Read (shape_of cache.old).blocks (shape_of cache.old).size b into.new) cache.old (answer_of (stored_of result)) cache.new }
-    ensures bytes { IfOk result (λ read. read.stored.bytes ≡ entry_bytes Read into.new read.stored.faulted) }
+    ensures calls { CallsCache
+        (IsCacheCall Read (shape_of cache.old).blocks (shape_of cache.old).size b into.new)
+        cache.old (step_answer (stored_of result)) cache.new }
+    ensures bytes { IfOk result
+        (λ read. read.stored.bytes ≡ entry_bytes Read into.new read.stored.faulted) }
     ensures given { IfOk result (λ read. read.bytes ≡ read.stored.bytes) }
     ensures gives { IfOk result (λ read. GivesContent (change_by Read b read.stored) cache.old) }
     ensures content { HasContentBy (changes_by Read b (stored_of result)) cache.old cache.new }
     ensures shape { shape_of cache.new ≡ shape_of cache.old }
-    ensures fault { IsErrOf (answer_of (stored_of result)) StepError.Fault → HasFaulted cache.old cache.new }
+    ensures fault { IsErrOf (step_answer (stored_of result)) StepError.Fault
+        → HasFaulted cache.old cache.new }
 {
     let faulted = faulted_by(cache.read(b, into))?;
     let (entered, bytes) = bytes_read(alloc, faulted, into)?;
@@ -85,12 +92,14 @@ pub fn read<D: Disk>(
 fn write<D: Disk>(cache: &mut Cache<D>, b: u64, bytes: SharedBytes) -> Result<Stored, Oom>
     requires block { b < (shape_of cache.old).blocks }
     requires piece { length bytes ≡ (shape_of cache.old).size }
-    ensures calls { CallsCache (IsCacheCall Write (shape_of cache.old).blocks (shape_of cache.old).size b bytes) cache.old (answer_of result) cache.new }
+    ensures calls { CallsCache
+        (IsCacheCall Write (shape_of cache.old).blocks (shape_of cache.old).size b bytes) cache.old
+        (step_answer result) cache.new }
     ensures bytes { IfOk result (λ stored. stored.bytes ≡ entry_bytes Write bytes stored.faulted) }
     ensures gives { IfOk result (λ stored. GivesContent (change_by Write b stored) cache.old) }
     ensures content { HasContentBy (changes_by Write b result) cache.old cache.new }
     ensures shape { shape_of cache.new ≡ shape_of cache.old }
-    ensures fault { IsErrOf (answer_of result) StepError.Fault → HasFaulted cache.old cache.new }
+    ensures fault { IsErrOf (step_answer result) StepError.Fault → HasFaulted cache.old cache.new }
 {
     let faulted = faulted_by(cache.write(b, bytes.as_slice()))?;
     Ok(Stored { bytes, faulted })
@@ -98,12 +107,16 @@ fn write<D: Disk>(cache: &mut Cache<D>, b: u64, bytes: SharedBytes) -> Result<St
 
 fn trim<D: Disk>(cache: &mut Cache<D>, b: u64) -> Result<Stored, Oom>
     requires block { b < (shape_of cache.old).blocks }
-    ensures calls { (bytes : List ℕ) → CallsCache (IsCacheCall Trim (shape_of cache.old).blocks (shape_of cache.old).size b bytes) cache.old (answer_of result) cache.new }
-    ensures bytes { (bytes : List ℕ) → IfOk result (λ stored. stored.bytes ≡ entry_bytes Trim bytes stored.faulted) }
+    ensures calls { (bytes : List ℕ)
+        → CallsCache
+        (IsCacheCall Trim (shape_of cache.old).blocks (shape_of cache.old).size b bytes) cache.old
+        (step_answer result) cache.new }
+    ensures bytes { (bytes : List ℕ)
+        → IfOk result (λ stored. stored.bytes ≡ entry_bytes Trim bytes stored.faulted) }
     ensures gives { IfOk result (λ stored. GivesContent (change_by Trim b stored) cache.old) }
     ensures content { HasContentBy (changes_by Trim b result) cache.old cache.new }
     ensures shape { shape_of cache.new ≡ shape_of cache.old }
-    ensures fault { IsErrOf (answer_of result) StepError.Fault → HasFaulted cache.old cache.new }
+    ensures fault { IsErrOf (step_answer result) StepError.Fault → HasFaulted cache.old cache.new }
 {
     let faulted = faulted_by(cache.trim(b))?;
     let bytes = SharedBytes::empty();
@@ -111,12 +124,17 @@ fn trim<D: Disk>(cache: &mut Cache<D>, b: u64) -> Result<Stored, Oom>
 }
 
 fn flush<D: Disk>(cache: &mut Cache<D>) -> Result<Stored, Oom>
-    ensures calls { (b : ℕ) (bytes : List ℕ) → CallsCache (IsCacheCall Flush (shape_of cache.old).blocks (shape_of cache.old).size b bytes) cache.old (answer_of result) cache.new }
-    ensures bytes { (bytes : List ℕ) → IfOk result (λ stored. stored.bytes ≡ entry_bytes Flush bytes stored.faulted) }
-    ensures gives { (b : ℕ) → IfOk result (λ stored. GivesContent (change_by Flush b stored) cache.old) }
+    ensures calls { (b : ℕ) (bytes : List ℕ)
+        → CallsCache
+        (IsCacheCall Flush (shape_of cache.old).blocks (shape_of cache.old).size b bytes)
+        cache.old (step_answer result) cache.new }
+    ensures bytes { (bytes : List ℕ)
+        → IfOk result (λ stored. stored.bytes ≡ entry_bytes Flush bytes stored.faulted) }
+    ensures gives { (b : ℕ)
+        → IfOk result (λ stored. GivesContent (change_by Flush b stored) cache.old) }
     ensures content { (b : ℕ) → HasContentBy (changes_by Flush b result) cache.old cache.new }
     ensures shape { shape_of cache.new ≡ shape_of cache.old }
-    ensures fault { IsErrOf (answer_of result) StepError.Fault → HasFaulted cache.old cache.new }
+    ensures fault { IsErrOf (step_answer result) StepError.Fault → HasFaulted cache.old cache.new }
 {
     let faulted = faulted_by(cache.flush())?;
     let bytes = SharedBytes::empty();
@@ -133,12 +151,14 @@ pub fn call_cache<D: Disk>(
     requires kind { is_read op ≡ false }
     requires block { IsOnDisk op b (shape_of cache.old).blocks }
     requires piece { IsPiece op (length bytes) (shape_of cache.old).size }
-    ensures calls { CallsCache (IsCacheCall op (shape_of cache.old).blocks (shape_of cache.old).size b bytes) cache.old (answer_of result) cache.new }
+    ensures calls { CallsCache
+        (IsCacheCall op (shape_of cache.old).blocks (shape_of cache.old).size b bytes) cache.old
+        (step_answer result) cache.new }
     ensures bytes { IfOk result (λ stored. stored.bytes ≡ entry_bytes op bytes stored.faulted) }
     ensures gives { IfOk result (λ stored. GivesContent (change_by op b stored) cache.old) }
     ensures content { HasContentBy (changes_by op b result) cache.old cache.new }
     ensures shape { shape_of cache.new ≡ shape_of cache.old }
-    ensures fault { IsErrOf (answer_of result) StepError.Fault → HasFaulted cache.old cache.new }
+    ensures fault { IsErrOf (step_answer result) StepError.Fault → HasFaulted cache.old cache.new }
 {
     match op {
         Op::Read => unreachable!(),

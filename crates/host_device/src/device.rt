@@ -32,23 +32,33 @@ pub struct Device<D: Disk> {
     pub(crate) opening: Snapshot<D>,
     ghost same_shape: { D.shape (disk_under cache) ≡ D.shape opening.value },
     ghost same_opening: { D.opening (disk_under cache) ≡ D.opening opening.value },
-    ghost legal: { IsTrue (D.shape (disk_under cache)).tells → IsLegal (D.state opening.value).durable (changes_of steps.items) },
-    ghost current: { IsTrue (D.shape (disk_under cache)).tells → IsCurrent (D.state opening.value).durable (changes_of steps.items) (content_of cache) },
-    ghost kept: { IsTrue (D.shape (disk_under cache)).tells → ∥ Keeps (D.state opening.value).durable (changes_of steps.items) (D.state (disk_under cache)) ∥₁ },
-    ghost faults: { RoseBy (faulted_count steps.items) (D.counts opening.value).faults (D.counts (disk_under cache)).faults },
-    ghost unfailing: { IsTrue (D.never_fails opening.value) → IsTrue (D.never_fails (disk_under cache)) × ((D.counts (disk_under cache)).faults ≡ (D.counts opening.value).faults) },
+    ghost legal: { IsTrue (D.shape (disk_under cache)).tells
+        → IsLegal (D.state opening.value).durable (changes_of steps.items) },
+    ghost current: { IsTrue (D.shape (disk_under cache)).tells
+        → IsCurrent (D.state opening.value).durable (changes_of steps.items) (content_of cache) },
+    ghost kept: { IsTrue (D.shape (disk_under cache)).tells
+        → ∥ Keeps (D.state opening.value).durable (changes_of steps.items)
+        (D.state (disk_under cache)) ∥₁ },
+    ghost faults: { RoseBy (faulted_count steps.items) (D.counts opening.value).faults
+        (D.counts (disk_under cache)).faults },
+    ghost unfailing: { IsTrue (D.never_fails opening.value)
+        → IsTrue (D.never_fails (disk_under cache))
+        × ((D.counts (disk_under cache)).faults ≡ (D.counts opening.value).faults) },
 }
 
 impl<D: Disk> Device<D> {
-    ghost use Rattle.std.specs.Prelude.{[], ◌++◌, ◌<◌, ◌≤◌, false, length, None, OnOk, OnErr, IfOk, IfErr, IsErrOf};
+    ghost use Rattle.std.specs.Prelude.{[], ◌++◌, ◌<◌, ◌≤◌, false, length, None, OnOk, OnErr, IfOk};
+    ghost use Rattle.std.specs.Prelude.{IfErr, IsErrOf};
     ghost use Rattle.host_block.specs.declared.op.Op.TheVariants.{Flush, Read};
     ghost use Rattle.host_block.specs.Changes.{is_read};
-    ghost use Rattle.host_log.specs.Switch.{spare_of};
+    ghost use Rattle.host_log.specs.Switch.{spare_in_log};
     ghost use Rattle.host_cache.specs.Seen.{held_of};
     ghost use Rattle.host_io.specs.Causes.{Rose};
-    ghost use Rattle.host_turn.specs.History.{Adds};
-    ghost use Rattle.host_device.specs.Entries.{IsOnDisk, IsPiece, answer_alone, entry_of, entries_added};
-    ghost use Rattle.host_device.specs.Seen.{cache_of, disk_of, shape_of, opening_of, fixed_of, steps_of, KeepsHistory, IsStep, LosesNothing};
+    ghost use Rattle.host_log.specs.History.{Adds};
+    ghost use Rattle.host_device.specs.Entries.{IsOnDisk, IsPiece, answer_alone, step_made};
+    ghost use Rattle.host_device.specs.Entries.{entries_added};
+    ghost use Rattle.host_device.specs.Seen.{cache_of, disk_of, shape_of, opening_of, fixed_of};
+    ghost use Rattle.host_device.specs.Seen.{steps_of, KeepsHistory, IsStep, LosesNothing};
 
     /// A device over an empty cache whose disk has nothing pending, with room for so many entries.
     pub fn new(
@@ -58,10 +68,12 @@ impl<D: Disk> Device<D> {
         keeps: bool,
     ) -> Result<Device<D>, NoDevice<D>>
         requires empty { held_of cache ≡ record { lines = []; victim = None } }
-        requires settled { IsTrue (D.shape (disk_under cache)).tells → (D.state (disk_under cache)).pending ≡ [] }
+        requires settled { IsTrue (D.shape (disk_under cache)).tells
+            → (D.state (disk_under cache)).pending ≡ [] }
         ensures cache { IfOk result (λ device. cache_of device ≡ cache) }
         ensures opening { IfOk result (λ device. opening_of device ≡ disk_under cache) }
-        ensures steps { IfOk result (λ device. steps_of device ≡ record { items = []; room = room; kept = keeps }) }
+        ensures steps { IfOk result
+            (λ device. steps_of device ≡ record { items = []; room = room; kept = keeps }) }
         ensures refused { IfErr result (λ refused. refused.cache ≡ cache) }
     {
         let opening = Snapshot::of(cache.disk());
@@ -81,13 +93,16 @@ impl<D: Disk> Device<D> {
         ensures told { IsTrue (shape_of self.now).tells → KeepsHistory self.now }
         ensures shape { shape_of self.now ≡ D.shape (opening_of self.now) }
         ensures opening { D.opening (disk_of self.now) ≡ D.opening (opening_of self.now) }
-        ensures faults { RoseBy (faulted_count (steps_of self.now).items) (D.counts (opening_of self.now)).faults (D.counts (disk_of self.now)).faults }
-        ensures unfailing { IsTrue (D.never_fails (opening_of self.now)) → IsTrue (D.never_fails (disk_of self.now)) × ((D.counts (disk_of self.now)).faults ≡ (D.counts (opening_of self.now)).faults) }
+        ensures faults { RoseBy (faulted_count (steps_of self.now).items)
+            (D.counts (opening_of self.now)).faults (D.counts (disk_of self.now)).faults }
+        ensures unfailing { IsTrue (D.never_fails (opening_of self.now))
+            → IsTrue (D.never_fails (disk_of self.now))
+            × ((D.counts (disk_of self.now)).faults ≡ (D.counts (opening_of self.now)).faults) }
     {}
 
     /// How many entries still fit.
     pub fn spare(&self) -> u64
-        ensures { result ≡ spare_of (steps_of self.now) }
+        ensures { result ≡ spare_in_log (steps_of self.now) }
     {
         self.steps.spare()
     }
@@ -101,9 +116,9 @@ impl<D: Disk> Device<D> {
 
     /// Makes room for one entry. Where one fits already it takes no memory.
     pub fn make_room(&mut self) -> Result<(), Oom>
-        ensures room { OnOk result (1 ≤ spare_of (steps_of self.new)) }
-        ensures full { OnErr result (spare_of (steps_of self.old) ≡ 0) }
-        ensures more { spare_of (steps_of self.old) ≤ spare_of (steps_of self.new) }
+        ensures room { OnOk result (1 ≤ spare_in_log (steps_of self.new)) }
+        ensures full { OnErr result (spare_in_log (steps_of self.old) ≡ 0) }
+        ensures more { spare_in_log (steps_of self.old) ≤ spare_in_log (steps_of self.new) }
         ensures entries { (steps_of self.new).items ≡ (steps_of self.old).items }
         ensures cache { cache_of self.new ≡ cache_of self.old }
         ensures fixed { fixed_of self.new ≡ fixed_of self.old }
@@ -114,8 +129,8 @@ impl<D: Disk> Device<D> {
         self.steps.reserve(1)
     }
 
-    /// Reads block `b` of the image into `into`, as step `k` of record `index` of a session, and enters that. It hands out
-    /// the entry's bytes. After an error nothing is known of `into`.
+    /// Reads block `b` of the image into `into`, as step `k` of record `index` of a session, and
+    /// enters that. It hands out the entry's bytes. After an error nothing is known of `into`.
     pub fn read(
         &mut self,
         hand: u32,
@@ -125,14 +140,21 @@ impl<D: Disk> Device<D> {
         b: u64,
         into: &mut [u8],
     ) -> Result<SharedBytes, StepError>
-        requires room { 1 ≤ spare_of (steps_of self.old) }
+        requires room { 1 ≤ spare_in_log (steps_of self.old) }
         requires block { b < (shape_of self.old).blocks }
         requires piece { length into.old ≡ (shape_of self.old).size }
         ensures bytes { IfOk result (λ bytes. bytes ≡ into.new) }
-        ensures entry { steps_of self.new ≡ record (steps_of self.old) { items = (steps_of self.old).items ++ entries_added (answer_alone result) (entry_of hand session index k Read b into.new) } }
-        ensures adds { Adds (λ step. step.hand) hand (steps_of self.old).items (steps_of self.new).items }
+        ensures entry { steps_of self.new
+            ≡ record (steps_of self.old) {
+              items = (steps_of self.old).items
+                  ++ entries_added (answer_alone result)
+                  (step_made hand session index k Read b into.new);
+            } }
+        ensures adds { Adds (λ step. step.hand) hand (steps_of self.old).items
+            (steps_of self.new).items }
         ensures calls { IsStep Read b into.new self.old (answer_alone result) self.new }
-        ensures fault { IsErrOf result StepError.Fault → Rose (D.counts (disk_of self.old)).faults (D.counts (disk_of self.new)).faults }
+        ensures fault { IsErrOf result StepError.Fault
+            → Rose (D.counts (disk_of self.old)).faults (D.counts (disk_of self.new)).faults }
         ensures shape { shape_of self.new ≡ shape_of self.old }
         ensures fixed { fixed_of self.new ≡ fixed_of self.old }
     {
@@ -145,8 +167,8 @@ impl<D: Disk> Device<D> {
         make_read(self.alloc, &mut self.cache, &mut self.steps, owner, b, into)
     }
 
-    /// Makes step `k` of record `index` of a session, no read, and enters it. `b` is a block of the image, and 0 for a
-    /// flush. The bytes of a write become the entry's.
+    /// Makes step `k` of record `index` of a session, no read, and enters it. `b` is a block of the
+    /// image, and 0 for a flush. The bytes of a write become the entry's.
     pub fn step(
         &mut self,
         hand: u32,
@@ -157,15 +179,21 @@ impl<D: Disk> Device<D> {
         b: u64,
         bytes: SharedBytes,
     ) -> Result<(), StepError>
-        requires room { 1 ≤ spare_of (steps_of self.old) }
+        requires room { 1 ≤ spare_in_log (steps_of self.old) }
         requires kind { is_read op ≡ false }
         requires block { IsOnDisk op b (shape_of self.old).blocks }
         requires piece { IsPiece op (length bytes) (shape_of self.old).size }
-        ensures entry { steps_of self.new ≡ record (steps_of self.old) { items = (steps_of self.old).items ++ entries_added result (entry_of hand session index k op b bytes) } }
-        ensures adds { Adds (λ step. step.hand) hand (steps_of self.old).items (steps_of self.new).items }
+        ensures entry { steps_of self.new
+            ≡ record (steps_of self.old) {
+              items = (steps_of self.old).items
+                  ++ entries_added result (step_made hand session index k op b bytes);
+            } }
+        ensures adds { Adds (λ step. step.hand) hand (steps_of self.old).items
+            (steps_of self.new).items }
         ensures calls { IsStep op b bytes self.old result self.new }
         ensures flushed { OnOk result (op ≡ Flush → LosesNothing self.new) }
-        ensures fault { IsErrOf result StepError.Fault → Rose (D.counts (disk_of self.old)).faults (D.counts (disk_of self.new)).faults }
+        ensures fault { IsErrOf result StepError.Fault
+            → Rose (D.counts (disk_of self.old)).faults (D.counts (disk_of self.new)).faults }
         ensures shape { shape_of self.new ≡ shape_of self.old }
         ensures fixed { fixed_of self.new ≡ fixed_of self.old }
     {

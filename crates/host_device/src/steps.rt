@@ -4,7 +4,7 @@ ghost use Rattle.host_block.specs.declared.op.Op.TheVariants.{Read};
 ghost use Rattle.host_block.specs.Changes.{is_read};
 ghost use Rattle.host_cache.specs.Seen.{shape_of, HasFaulted};
 ghost use Rattle.host_model.specs.Changes.{changes_of};
-ghost use Rattle.host_device.specs.Answers.{answered, step_by, entry_for};
+ghost use Rattle.host_device.specs.Answers.{answered, step_by, step_entry};
 ghost use Rattle.host_device.specs.CacheSteps.{CallsCache, HasContentBy, AreGiven};
 ghost use Rattle.host_device.specs.Calls.{IsCacheCall};
 ghost use Rattle.host_device.specs.Entries.{IsOnDisk, IsPiece, answer_alone, entries_added};
@@ -40,10 +40,16 @@ pub fn make_step<D: Disk>(
     requires kind { is_read op ≡ false }
     requires block { IsOnDisk op b (shape_of cache.old).blocks }
     requires piece { IsPiece op (length bytes) (shape_of cache.old).size }
-    ensures entry { steps.new ≡ record steps.old { items = steps.old.items ++ entries_added result (entry_for owner op b bytes) } }
-    ensures calls { CallsCache (IsCacheCall op (shape_of cache.old).blocks (shape_of cache.old).size b bytes) cache.old result cache.new }
-    ensures gives { AreGiven (changes_of (entries_added result (entry_for owner op b bytes))) cache.old }
-    ensures content { HasContentBy (changes_of (entries_added result (entry_for owner op b bytes))) cache.old cache.new }
+    ensures entry { steps.new
+        ≡ record steps.old
+        { items = steps.old.items ++ entries_added result (step_entry owner op b bytes) } }
+    ensures calls { CallsCache
+        (IsCacheCall op (shape_of cache.old).blocks (shape_of cache.old).size b bytes) cache.old
+        result cache.new }
+    ensures gives { AreGiven (changes_of (entries_added result (step_entry owner op b bytes)))
+        cache.old }
+    ensures content { HasContentBy (changes_of (entries_added result (step_entry owner op b bytes)))
+        cache.old cache.new }
     ensures shape { shape_of cache.new ≡ shape_of cache.old }
     ensures fault { IsErrOf result StepError.Fault → HasFaulted cache.old cache.new }
 {
@@ -66,10 +72,20 @@ pub fn make_read<D: Disk>(
     requires block { b < (shape_of cache.old).blocks }
     requires piece { length into.old ≡ (shape_of cache.old).size }
     ensures bytes { IfOk result (λ bytes. bytes ≡ into.new) }
-    ensures entry { steps.new ≡ record steps.old { items = steps.old.items ++ entries_added (answer_alone result) (entry_for owner Read b into.new) } }
-    ensures calls { CallsCache (IsCacheCall Read (shape_of cache.old).blocks (shape_of cache.old).size b into.new) cache.old (answer_alone result) cache.new }
-    ensures gives { AreGiven (changes_of (entries_added (answer_alone result) (entry_for owner Read b into.new))) cache.old }
-    ensures content { HasContentBy (changes_of (entries_added (answer_alone result) (entry_for owner Read b into.new))) cache.old cache.new }
+    ensures entry { steps.new
+        ≡ record steps.old {
+          items = steps.old.items
+              ++ entries_added (answer_alone result) (step_entry owner Read b into.new);
+        } }
+    ensures calls { CallsCache
+        (IsCacheCall Read (shape_of cache.old).blocks (shape_of cache.old).size b into.new)
+        cache.old (answer_alone result) cache.new }
+    ensures gives { AreGiven
+        (changes_of (entries_added (answer_alone result) (step_entry owner Read b into.new)))
+        cache.old }
+    ensures content { HasContentBy
+        (changes_of (entries_added (answer_alone result) (step_entry owner Read b into.new)))
+        cache.old cache.new }
     ensures shape { shape_of cache.new ≡ shape_of cache.old }
     ensures fault { IsErrOf (answer_alone result) StepError.Fault → HasFaulted cache.old cache.new }
 {
@@ -103,7 +119,8 @@ fn enter(
     stored: Stored,
 ) -> Result<(), StepError>
     requires { length steps.old.items < steps.old.room }
-    ensures entry { steps.new ≡ record steps.old { items = steps.old.items ++ step_by owner op b stored ∷ [] } }
+    ensures entry { steps.new
+        ≡ record steps.old { items = steps.old.items ++ step_by owner op b stored ∷ [] } }
     ensures answer { result ≡ answered stored.faulted }
 {
     let Stored { bytes, faulted } = stored;

@@ -3,8 +3,8 @@ use Rattle.std.specs.Prelude.{ℕ}
 use Rattle.host_file.specs.declared.std_sink.StdSink.{StdSink}
 use Rattle.host_file.specs.declared.std_source.StdSource.{StdSource}
 
-abbrev pub sink_faults : {W : Type 0} → StdSink W → ℕ
-sink_faults s = s.faults
+abbrev pub std_sink_faults : {W : Type 0} → StdSink W → ℕ
+std_sink_faults s = s.faults
 
-abbrev pub source_faults : {R : Type 0} → StdSource R → ℕ
-source_faults s = s.faults
+abbrev pub std_source_faults : {R : Type 0} → StdSource R → ℕ
+std_source_faults s = s.faults

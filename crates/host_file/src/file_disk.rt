@@ -6,9 +6,9 @@ use crate::{OpenError, RawFile};
 use host_block::BlockSize;
 use host_io::{Counts, Disk, DiskError};
 
-/// A disk whose images are files, which takes a name as a path and tells nothing of their content. After a sync that
-/// failed, what was written before may be lost though a later sync of the system is answered well; so each sync fails then,
-/// until an image is attached.
+/// A disk whose images are files, which takes a name as a path and tells nothing of their content.
+/// After a sync that failed, what was written before may be lost though a later sync of the system
+/// is answered well; so each sync fails then, until an image is attached.
 #[derive(Drop)]
 pub struct FileDisk<F> {
     raw: F,
@@ -24,11 +24,11 @@ pub struct FileDisk<F> {
 }
 
 impl<F: RawFile> FileDisk<F> {
-    ghost use Rattle.host_file.specs.FileDisks.{IsMadeOf, is_held};
+    ghost use Rattle.host_file.specs.FileDisks.{IsFileDiskMadeOf, is_held};
 
     /// A disk to which no image is attached.
     pub fn new(raw: F) -> FileDisk<F>
-        ensures { IsMadeOf raw result }
+        ensures { IsFileDiskMadeOf raw result }
     {
         FileDisk {
             raw,
@@ -59,11 +59,12 @@ impl<F: RawFile> FileDisk<F> {
 impl<F: RawFile> FileDisk<F> {
     ghost use Rattle.std.specs.Prelude.{◌+◌, ◌≤◌, length};
     ghost use Rattle.std.specs.Bool.{OnTrue, OnFalse};
-    ghost use Rattle.host_file.specs.FileDisks.{HasRoom, HasNoRoom};
+    ghost use Rattle.host_file.specs.FileDisks.{HasBytesFor, HasNoRoom};
 
-    // Whether the file still has the bytes of a block at this place, so that a write of it doesn't make it grow.
+    // Whether the file still has the bytes of a block at this place, so that a write of it doesn't
+    // make it grow.
     fn has_room(&self, place: u64) -> bool
-        ensures yes { OnTrue result (HasRoom F.measures self.now place) }
+        ensures yes { OnTrue result (HasBytesFor F.measures self.now place) }
         ensures no { OnFalse result (HasNoRoom F.measures self.now place) }
     {
         match self.raw.length() {
@@ -76,15 +77,18 @@ impl<F: RawFile> FileDisk<F> {
 impl<F: RawFile> Disk for FileDisk<F> {
     ghost use Rattle.std.specs.Prelude.{◌≡◌, ◌*◌, ◌<◌, false, [], length};
     ghost use Rattle.host_io.specs.Causes.{faults_after};
-    ghost use Rattle.host_io.specs.Disks.{Calls, read_counted, write_counted, sync_counted, Attaches};
-    ghost use Rattle.host_file.specs.FileDisks.{shape_of, counts_of, state_of, Opens, Takes, Puts, Syncs, IsLatchKept};
+    ghost use Rattle.host_io.specs.Disks.{Calls, read_counted, write_counted, sync_counted};
+    ghost use Rattle.host_io.specs.Disks.{Attaches};
+    ghost use Rattle.host_file.specs.FileDisks.{file_shape, file_counts, file_state, OpensFile};
+    ghost use Rattle.host_file.specs.FileDisks.{TakesFileBlock, PutsFileBlock, SyncsFile};
+    ghost use Rattle.host_file.specs.FileDisks.{IsLatchKept};
     ghost use Rattle.host_file.specs.Untold.{untold};
 
-    ghost shape = { λ d. shape_of d };
+    ghost shape = { λ d. file_shape d };
 
-    ghost counts = { λ d. counts_of d };
+    ghost counts = { λ d. file_counts d };
 
-    ghost state = { λ d. state_of d };
+    ghost state = { λ d. file_state d };
 
     ghost opening = { λ d. [] };
 
@@ -95,11 +99,14 @@ impl<F: RawFile> Disk for FileDisk<F> {
     ghost of_size = { λ d told. untold told };
 
     fn attach_image(&mut self, name: &str, size: BlockSize, writes: bool) -> Result<u64, DiskError>
-        ensures attaches { Attaches size writes [] (shape_of self.old) (shape_of self.new) (state_of self.new) result }
-        ensures calls { Calls (counts_of self.old) (counts_of self.old) (counts_of self.new) false false result }
+        ensures attaches { Attaches size writes [] (file_shape self.old) (file_shape self.new)
+            (file_state self.new) result }
+        ensures calls { Calls (file_counts self.old) (file_counts self.old) (file_counts self.new)
+            false false result }
         // What no disk owes but this one.
-        ensures faults { (counts_of self.new).faults ≡ faults_after result (counts_of self.old).faults }
-        ensures opens { Opens F.opens self.old self.new name.now size writes result }
+        ensures faults { (file_counts self.new).faults
+            ≡ faults_after result (file_counts self.old).faults }
+        ensures opens { OpensFile F.opens self.old self.new name.now size writes result }
     {
         self.attached = false;
         self.writes = false;
@@ -120,14 +127,16 @@ impl<F: RawFile> Disk for FileDisk<F> {
     }
 
     fn read_block(&mut self, b: u64, into: &mut [u8]) -> Result<(), DiskError>
-        requires block { b < (shape_of self.old).blocks }
-        requires piece { length into.old ≡ (shape_of self.old).size }
-        ensures shape { shape_of self.new ≡ shape_of self.old }
-        ensures calls { Calls (counts_of self.old) (read_counted (counts_of self.old)) (counts_of self.new) false false result }
+        requires block { b < (file_shape self.old).blocks }
+        requires piece { length into.old ≡ (file_shape self.old).size }
+        ensures shape { file_shape self.new ≡ file_shape self.old }
+        ensures calls { Calls (file_counts self.old) (read_counted (file_counts self.old))
+            (file_counts self.new) false false result }
         // What no disk owes but this one.
-        ensures faults { (counts_of self.new).faults ≡ faults_after result (counts_of self.old).faults }
+        ensures faults { (file_counts self.new).faults
+            ≡ faults_after result (file_counts self.old).faults }
         ensures latch { IsLatchKept self.old self.new }
-        ensures takes { Takes F.reads self.old self.new b into.new result }
+        ensures takes { TakesFileBlock F.reads self.old self.new b into.new result }
     {
         self.counts.reads = self.counts.reads.saturating_add(1);
         let place = b * u64::from(self.size);
@@ -138,14 +147,16 @@ impl<F: RawFile> Disk for FileDisk<F> {
     }
 
     fn write_block(&mut self, b: u64, from: &[u8]) -> Result<(), DiskError>
-        requires block { b < (shape_of self.old).blocks }
-        requires piece { length from.now ≡ (shape_of self.old).size }
-        ensures shape { shape_of self.new ≡ shape_of self.old }
-        ensures calls { Calls (counts_of self.old) (write_counted (counts_of self.old)) (counts_of self.new) false false result }
+        requires block { b < (file_shape self.old).blocks }
+        requires piece { length from.now ≡ (file_shape self.old).size }
+        ensures shape { file_shape self.new ≡ file_shape self.old }
+        ensures calls { Calls (file_counts self.old) (write_counted (file_counts self.old))
+            (file_counts self.new) false false result }
         // What no disk owes but this one.
-        ensures faults { (counts_of self.new).faults ≡ faults_after result (counts_of self.old).faults }
+        ensures faults { (file_counts self.new).faults
+            ≡ faults_after result (file_counts self.old).faults }
         ensures latch { IsLatchKept self.old self.new }
-        ensures puts { Puts F.measures F.puts self.old self.new b from.now result }
+        ensures puts { PutsFileBlock F.measures F.puts self.old self.new b from.now result }
     {
         self.counts.writes = self.counts.writes.saturating_add(1);
         let place = b * u64::from(self.size);
@@ -156,11 +167,13 @@ impl<F: RawFile> Disk for FileDisk<F> {
     }
 
     fn sync(&mut self) -> Result<(), DiskError>
-        ensures shape { shape_of self.new ≡ shape_of self.old }
-        ensures calls { Calls (counts_of self.old) (sync_counted (counts_of self.old)) (counts_of self.new) false false result }
+        ensures shape { file_shape self.new ≡ file_shape self.old }
+        ensures calls { Calls (file_counts self.old) (sync_counted (file_counts self.old))
+            (file_counts self.new) false false result }
         // What no disk owes but this one.
-        ensures faults { (counts_of self.new).faults ≡ faults_after result (counts_of self.old).faults }
-        ensures syncs { Syncs F.syncs self.old self.new result }
+        ensures faults { (file_counts self.new).faults
+            ≡ faults_after result (file_counts self.old).faults }
+        ensures syncs { SyncsFile F.syncs self.old self.new result }
     {
         self.counts.syncs = self.counts.syncs.saturating_add(1);
         if self.writes && !self.lost && self.raw.sync().is_ok() {

@@ -19,10 +19,11 @@ pub enum OpenError {
 #[error("the system refused a call")]
 pub struct RawFailed;
 
-/// One file of the system at a time, as it answers. Its ghost members say which answer led from which state to which; so
-/// what is proved of a caller speaks of the answers that it got.
+/// One file of the system at a time, as it answers. Its ghost members say which answer led from
+/// which state to which; so what is proved of a caller speaks of the answers that it got.
 pub trait RawFile {
-    /// An opening of this name, to be written or not, gave this answer: the length in bytes, or why there is none.
+    /// An opening of this name, to be written or not, gave this answer: the length in bytes, or why
+    /// there is none.
     ghost opens: { Self → List ℕ → Bool → Result ℕ OpenError → Self → Type 0 };
 
     /// The length was told, or wasn't.
@@ -37,8 +38,8 @@ pub trait RawFile {
     /// A sync was done where the flag is true, else it failed.
     ghost syncs: { Self → Bool → Self → Type 0 };
 
-    /// Closes the file that is open, and opens this one, for this program alone where it is to be written. Tells its
-    /// length.
+    /// Closes the file that is open, and opens this one, for this program alone where it is to be
+    /// written. Tells its length.
     fn open(&mut self, name: &str, writes: bool) -> Result<u64, OpenError>
         ensures { opens self.old name.now writes result self.new };
 

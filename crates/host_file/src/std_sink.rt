@@ -13,11 +13,11 @@ pub struct StdSink<W> {
 
 impl<W: Write> StdSink<W> {
     ghost use Rattle.std.specs.Prelude.{◌≡◌};
-    ghost use Rattle.host_file.specs.StdStreams.{sink_faults};
+    ghost use Rattle.host_file.specs.StdStreams.{std_sink_faults};
 
     /// A sink that hasn't failed.
     pub fn new(writer: W) -> StdSink<W>
-        ensures { sink_faults result ≡ 0 }
+        ensures { std_sink_faults result ≡ 0 }
     {
         StdSink { writer, faults: 0 }
     }
@@ -25,13 +25,13 @@ impl<W: Write> StdSink<W> {
 
 impl<W: Write> Sink for StdSink<W> {
     ghost use Rattle.std.specs.Prelude.{false, []};
-    ghost use Rattle.host_file.specs.StdStreams.{sink_faults};
+    ghost use Rattle.host_file.specs.StdStreams.{std_sink_faults};
 
     ghost tells = { λ s. false };
 
     ghost appended = { λ s. [] };
 
-    ghost faults = { sink_faults };
+    ghost faults = { std_sink_faults };
 
     fn put(&mut self, from: &[u8]) -> Result<usize, SinkFailed> {
         match write(&mut self.writer, from) {
@@ -44,7 +44,8 @@ impl<W: Write> Sink for StdSink<W> {
     }
 }
 
-// Writes once, again where a signal interrupts it. It has failed where there was something to write and nothing was taken.
+// Writes once, again where a signal interrupts it. It has failed where there was something to write
+// and nothing was taken.
 fn write<W: Write>(writer: &mut W, from: &[u8]) -> Option<usize>
     ensures most { IfSome result (λ count. count ≤ length from.now) }
     ensures some { IfSome result (λ count. 0 < length from.now → 1 ≤ count) }

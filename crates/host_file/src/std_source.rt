@@ -13,11 +13,11 @@ pub struct StdSource<R> {
 
 impl<R: Read> StdSource<R> {
     ghost use Rattle.std.specs.Prelude.{◌≡◌};
-    ghost use Rattle.host_file.specs.StdStreams.{source_faults};
+    ghost use Rattle.host_file.specs.StdStreams.{std_source_faults};
 
     /// A source that hasn't failed.
     pub fn new(reader: R) -> StdSource<R>
-        ensures { source_faults result ≡ 0 }
+        ensures { std_source_faults result ≡ 0 }
     {
         StdSource { reader, faults: 0 }
     }
@@ -25,13 +25,13 @@ impl<R: Read> StdSource<R> {
 
 impl<R: Read> Source for StdSource<R> {
     ghost use Rattle.std.specs.Prelude.{false, []};
-    ghost use Rattle.host_file.specs.StdStreams.{source_faults};
+    ghost use Rattle.host_file.specs.StdStreams.{std_source_faults};
 
     ghost tells = { λ s. false };
 
     ghost left = { λ s. [] };
 
-    ghost faults = { source_faults };
+    ghost faults = { std_source_faults };
 
     fn take(&mut self, into: &mut [u8]) -> Result<usize, SourceFailed> {
         match read(&mut self.reader, into) {

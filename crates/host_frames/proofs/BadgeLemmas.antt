@@ -2,13 +2,7 @@
 use Rattle.std.proofs.Common.{◌≡◌, ℕ, zero, suc, List, [], ◌∷◌, length, get_or, set, ◌<◌, map, reverse, replicate, sym, refl, ap, ap₂, subst, ◌∙◌, All, arith}
 use Rattle.std.proofs.lemmas.List.Elements.{All-head, All-tail, All-set}
 use Rattle.atomic_table.specs.Table.{Joins}
-use Rattle.host_frames.specs.declared.rule.Opening.{Opening}
-use Rattle.host_frames.specs.declared.view.View.{View}
-use Rattle.host_frames.specs.declared.page.Page.{Page}
-use Rattle.host_frames.specs.Views.{unpacked_view, spent_view, out_view}
-use Rattle.host_frames.specs.Homes.{IsBlankPage}
-use Rattle.host_frames.specs.Badges.{IsInWords, IsWhole, alone, badge_page_size, seen_page}
-use Rattle.host_frames.specs.PageLending.{with_bytes}
+use Rattle.host_frames.specs.{Opening, View, Page, unpacked_view, spent_view, out_view, IsBlankPage, IsInWords, ArePagesWhole, alone, badge_page_size, seen_page, with_bytes}
 use Rattle.std.proofs.lemmas.List.{length-set}
 use Rattle.host_frames.proofs.Stepping as m
 use Rattle.host_frames.proofs.Seating.{unpacks}
@@ -35,7 +29,7 @@ map_kept f (x ∷ xs) zero a d lt e = ap (λ y. y ∷ map f xs) e
 map_kept f (x ∷ xs) (suc i) a d lt e = ap (λ l. f x ∷ l) (map_kept f xs i a d (omega arith) e)
 
 -- pages of which one has other bytes
-pub whole_written : (views : List View) (words : ℕ) (xs : List Page) (i : ℕ) (p : Page) (ws : List ℕ) → i < length xs → p ≡ get_or xs i p → IsWhole views words xs → IsWhole views words (set xs i (with_bytes p ws))
+pub whole_written : (views : List View) (words : ℕ) (xs : List Page) (i : ℕ) (p : Page) (ws : List ℕ) → i < length xs → p ≡ get_or xs i p → ArePagesWhole views words xs → ArePagesWhole views words (set xs i (with_bytes p ws))
 whole_written views words xs i p ws lt at h = let q : Page = with_bytes p ws in record {
   is_alone = h.is_alone;
   named = h.named ∙ sym (ap reverse (map_kept (λ (z : Page). z.frame) xs i q p lt (ap (λ (z : Page). z.frame) at)));

@@ -5,12 +5,12 @@ use Rattle.std.proofs.lemmas.Nat.{pow_below, mod_below, div_below}
 use Rattle.std.proofs.lemmas.Nat.Bits.{bit_at-lt, bit_at_and, bit_at_or, bit_at_not, bit_at-zero, bit_at-pow_same, bit_at-pow_other}
 use mathlib.Core.Logic.{dite}
 use native.Mathlib.Decide.{ℕ_discrete}
-use Rattle.host_frames.specs.Sums.{same, count, claim_bit, put_where, set_frames, frames_in}
-use Rattle.host_frames.specs.Views.{won_in}
-use Rattle.host_frames.proofs.Totals.{same_here, same_else}
+use Rattle.host_frames.specs.{claim_bit, put_where, set_frames, frames_in, won_in}
+use Rattle.host_log.specs.{same, occurrences}
+use Rattle.host_log.proofs.Counts.{same_here, same_else}
 
 -- ---- the frames of a word
-count_put : (g b x : ℕ) (xs : List ℕ) → b < 2 → (same g x ≡ 0 → count g (put_where b x xs) ≡ count g xs) × (same g x ≡ 1 → count g (put_where b x xs) ≡ b + count g xs)
+count_put : (g b x : ℕ) (xs : List ℕ) → b < 2 → (same g x ≡ 0 → occurrences g (put_where b x xs) ≡ occurrences g xs) × (same g x ≡ 1 → occurrences g (put_where b x xs) ≡ b + occurrences g xs)
 count_put g zero x xs lt = ((λ e. refl), λ e. omega arith)
 count_put g (suc b) x xs lt = ((λ e. omega arith), λ e. omega arith)
 
@@ -23,23 +23,23 @@ unfolding frames_in
 frames_from i n = refl
 
 module _ (i n : ℕ) where
-  set_outside : (j k g : ℕ) → ((b : ℕ) → j ≤ b → b < j + k → g ≢ 64 * i + b) → count g (set_frames i n j k) ≡ 0
+  set_outside : (j k g : ℕ) → ((b : ℕ) → j ≤ b → b < j + k → g ≢ 64 * i + b) → occurrences g (set_frames i n j k) ≡ 0
   set_outside j zero g h = refl
   set_outside j (suc k) g h = let x : ℕ = 64 * i + j in let none = same_else g x (h j (omega arith) (omega arith)) in
       (count_put g (bit_at n j) x (set_frames i n (j + 1) k) (bit_at-lt n j)).0 none ∙ set_outside (j + 1) k g (λ b le lt. h b (omega arith) (omega arith))
 
-  set_inside : (j k g b : ℕ) → g ≡ 64 * i + b → j ≤ b → b < j + k → count g (set_frames i n j k) ≡ bit_at n b
+  set_inside : (j k g b : ℕ) → g ≡ 64 * i + b → j ≤ b → b < j + k → occurrences g (set_frames i n j k) ≡ bit_at n b
   set_inside j zero g b e le lt = absurd (omega arith)
   set_inside j (suc k) g b e le lt = let x : ℕ = 64 * i + j in let rest : List ℕ = set_frames i n (j + 1) k in let put = count_put g (bit_at n j) x rest (bit_at-lt n j) in dite (ℕ_discrete b j)
       (λ here. let one : same g x ≡ 1 = ap (λ z. same g z) (let s : x ≡ g = omega arith in s) ∙ same_here g in let none = set_outside (j + 1) k g (λ c le' lt' no. absurd (omega arith)) in
-      put.1 one ∙ (let s : bit_at n j + count g rest ≡ bit_at n j = omega arith in s) ∙ ap (bit_at n) (sym here))
+      put.1 one ∙ (let s : bit_at n j + occurrences g rest ≡ bit_at n j = omega arith in s) ∙ ap (bit_at n) (sym here))
       (λ no. let none = same_else g x (λ s. no (omega arith)) in put.0 none ∙ set_inside (j + 1) k g b e (omega arith) (omega arith))
 
-  pub in_word : (g : ℕ) → g / 64 ≡ i → count g (frames_in i n) ≡ bit_at n (g % 64)
-  in_word g here = ap (count g) (frames_from i n) ∙ set_inside 0 64 g (g % 64) (omega arith) (omega arith) (mod_below g 64 (omega arith))
+  pub in_word : (g : ℕ) → g / 64 ≡ i → occurrences g (frames_in i n) ≡ bit_at n (g % 64)
+  in_word g here = ap (occurrences g) (frames_from i n) ∙ set_inside 0 64 g (g % 64) (omega arith) (omega arith) (mod_below g 64 (omega arith))
 
-  pub not_in_word : (g : ℕ) → g / 64 ≢ i → count g (frames_in i n) ≡ 0
-  not_in_word g ne = ap (count g) (frames_from i n) ∙ set_outside 0 64 g (λ b le lt e. ne (omega arith))
+  pub not_in_word : (g : ℕ) → g / 64 ≢ i → occurrences g (frames_in i n) ≡ 0
+  not_in_word g ne = ap (occurrences g) (frames_from i n) ∙ set_outside 0 64 g (λ b le lt e. ne (omega arith))
 
 -- how many bits are set doesn't depend on the word
 pub length_le : (i i' n n' j k : ℕ) → ((b : ℕ) → j ≤ b → b < j + k → bit_at n b ≤ bit_at n' b) → length (set_frames i n j k) ≤ length (set_frames i' n' j k)
@@ -97,19 +97,19 @@ module _ (ws : List ℕ) (i : ℕ) where
   bit_here g e = ap (λ z. bit_at (get_or ws z 0) (g % 64)) e
 
   -- the frames that are found taken are claimed
-  pub found_taken : (g : ℕ) → count g (frames_in i (get_or ws i 0)) ≤ claim_bit ws g
+  pub found_taken : (g : ℕ) → occurrences g (frames_in i (get_or ws i 0)) ≤ claim_bit ws g
   found_taken g = dite (ℕ_discrete (g / 64) i)
       (λ e. let a = in_word i (get_or ws i 0) g e in let b = bit_here g e in omega arith)
       (λ no. let a = not_in_word i (get_or ws i 0) g no in omega arith)
 
   module _ (m : ℕ) where
-    pub mask_taken : (g : ℕ) → count g (frames_in i (bit_and m (get_or ws i 0))) ≤ claim_bit ws g
+    pub mask_taken : (g : ℕ) → occurrences g (frames_in i (bit_and m (get_or ws i 0))) ≤ claim_bit ws g
     mask_taken g = dite (ℕ_discrete (g / 64) i)
         (λ e. let a = in_word i (bit_and m (get_or ws i 0)) g e in let b = bit_here g e in let c = bit_at_and m (get_or ws i 0) (g % 64) in omega arith)
         (λ no. let a = not_in_word i (bit_and m (get_or ws i 0)) g no in omega arith)
 
     -- the bits that are set more are those of the frames that are won
-    pub won_bits : (g : ℕ) → i < length ws → get_or ws i 0 < 18446744073709551616 → claim_bit (set ws i (bit_or (get_or ws i 0) m)) g ≡ claim_bit ws g + count g (won_in i m (get_or ws i 0))
+    pub won_bits : (g : ℕ) → i < length ws → get_or ws i 0 < 18446744073709551616 → claim_bit (set ws i (bit_or (get_or ws i 0) m)) g ≡ claim_bit ws g + occurrences g (won_in i m (get_or ws i 0))
     won_bits g lt small = dite (ℕ_discrete (g / 64) i)
         (λ e. let y : ℕ = get_or ws i 0 in let b : ℕ = g % 64 in let low = mod_below g 64 (omega arith) in
         let now = set_bit_here (bit_or y m) g lt e in let or = bit_at_or y m b in let was = bit_here g e in let won = in_word i (bit_and m (bit_not w64 y)) g e in let and = bit_at_and m (bit_not w64 y) b in let not = bit_at_not w64 y b small low in
@@ -117,7 +117,7 @@ module _ (ws : List ℕ) (i : ℕ) where
         (λ no. let now = set_bit_else (bit_or (get_or ws i 0) m) g no in let none = not_in_word i (bit_and m (bit_not w64 (get_or ws i 0))) g no in omega arith)
 
 -- a frame of the mask is won or found taken
-pub met_bits : (i m y g : ℕ) → y < 18446744073709551616 → count g (won_in i m y) + count g (frames_in i (bit_and m y)) ≡ count g (frames_in i m)
+pub met_bits : (i m y g : ℕ) → y < 18446744073709551616 → occurrences g (won_in i m y) + occurrences g (frames_in i (bit_and m y)) ≡ occurrences g (frames_in i m)
 met_bits i m y g small = dite (ℕ_discrete (g / 64) i)
     (λ e. let b : ℕ = g % 64 in let low = mod_below g 64 (omega arith) in let won = in_word i (bit_and m (bit_not w64 y)) g e in let taken = in_word i (bit_and m y) g e in let all = in_word i m g e in
     let a = bit_at_and m (bit_not w64 y) b in let not = bit_at_not w64 y b small low in let c = bit_at_and m y b in let p = bit_at-lt y b in let q = bit_at-lt m b in omega arith)

@@ -6,16 +6,9 @@ use Rattle.std.proofs.lemmas.List.Elements.{All-nil}
 use Rattle.atomic_table.specs.Table.{Me}
 use Rattle.std.proofs.lemmas.Nat.{one_shl}
 use Rattle.std.specs.Int.{bit_at}
-use Rattle.host_frames.specs.declared.view.View.{View}
-use Rattle.host_frames.specs.declared.view.Claim.{Claim}
-use Rattle.host_frames.specs.declared.page.Page.{Page}
-use Rattle.host_frames.specs.Sums.{count, frames_in}
-use Rattle.host_frames.specs.Claims.{times_met}
-use Rattle.host_frames.specs.Views.{others, looks, wins, won_in, new_claim, asking_view, looking_view, winning_view, fetching_view, settled_view}
-use Rattle.host_frames.specs.Homes.{IsBlankPage}
-use Rattle.host_frames.specs.Badges.{frames_of_pages}
-use Rattle.host_frames.specs.Moments.{IsIdle, IsNextToFetch, IsFetching, HasClaimed, HasGoneOn, claiming_view, fetched_view}
-use Rattle.host_frames.proofs.Totals.{count_append}
+use Rattle.host_frames.specs.{View, Claim, Page, frames_in, times_met, others, looks, wins, won_in, new_claim, asking_view, looking_view, winning_view, fetching_view, settled_view, IsBlankPage, frames_of_pages, IsIdle, IsNextToFetch, IsFetching, HasClaimed, HasGoneOn, claiming_view, fetched_view}
+use Rattle.host_log.specs.{occurrences}
+use Rattle.host_log.proofs.Counts.{count_append}
 use Rattle.host_frames.proofs.Bits.{but, in_word, met_bits}
 
 pub named_snoc : (ps : List Page) (p : Page) → frames_of_pages (ps ++ p ∷ []) ≡ p.frame ∷ frames_of_pages ps
@@ -32,7 +25,7 @@ looks_on i x c f = let a = count_append f (frames_in i x) c.taken in omega arith
 pub looks_meets : (i x : ℕ) (c : Claim) (f : ℕ) → f / 64 ≡ i → bit_at x (f % 64) ≡ 1 → 1 ≤ times_met f (looks i x c)
 looks_meets i x c f here set = let a = count_append f (frames_in i x) c.taken in let b = in_word i x f here in omega arith
 
-pub wins_meet : (i mask x : ℕ) (c : Claim) (f : ℕ) → x < 18446744073709551616 → times_met f c + count f (frames_in i mask) ≤ times_met f (wins i mask x c)
+pub wins_meet : (i mask x : ℕ) (c : Claim) (f : ℕ) → x < 18446744073709551616 → times_met f c + occurrences f (frames_in i mask) ≤ times_met f (wins i mask x c)
 wins_meet i mask x c f small = let a = count_append f (won_in i mask x) c.won in let b = count_append f (frames_in i (bit_and mask x)) c.taken in let all = met_bits i mask x f small in omega arith
 
 first_asked : List Claim → ℕ
@@ -56,7 +49,7 @@ module _ {S : Type 0} where
   -- bits that are set, and the pages of the frames that were won
   pub claim_wins : (n i mask x : ℕ) (v : View) (c : Claim) (m m1 m2 : Me S View) (ps ps' : List Page) → HasClaimed n v c m ps → m1 ≡ (winning_view i mask x m.0, m.1) → m2 ≡ (fetched_view m1.0 [] (frames_of_pages ps'), [])
       → length ps' ≡ length ps + length (won_in i mask x) → length ps' ≤ n → All (λ p. IsBlankPage v.page_size p.bytes) ps' → HasClaimed n v (wins i mask x c) m2 ps'
-  claim_wins n i mask x v c m m1 m2 ps ps' h e d count few blank = let won = length-append (won_in i mask x) c.won in let was = h.2 in
+  claim_wins n i mask x v c m m1 m2 ps ps' h e d occurrences few blank = let won = length-append (won_in i mask x) c.won in let was = h.2 in
       let more : v.granted + length c.won + length (won_in i mask x) ≡ v.granted + length (won_in i mask x ++ c.won) = omega arith in (
         d ∙ ((λ j. (fetched_view (e j).0 [] (frames_of_pages ps'), [])) ∙ ((λ j. (fetched_view (winning_view i mask x (h.0 j).0) [] (frames_of_pages ps'), []))
             ∙ (λ j. (record { share = 1; page_size = v.page_size; granted = more j; given_back = v.given_back; claims = wins i mask x c ∷ v.claims; to_fetch = []; frames_out = frames_of_pages ps'; slots_held = [] }, [])))),

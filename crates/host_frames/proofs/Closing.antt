@@ -1,22 +1,14 @@
 -- How a pool is made and closed.
-use Rattle.std.proofs.Common.{◌≡◌, ℕ, zero, suc, ◌+◌, ◌-◌, ◌*◌, ◌<◌, ◌≤◌, List, [], ◌∷◌, ◌++◌, length, get_or, set, take, replicate, Bool, get_or-set_same, get_or-set_other, sym, refl, ap, subst, ◌∙◌, inl, inr, ⊎_elim, All, Vec, Global, append_assoc, length-append, arith}
+use Rattle.std.proofs.Common.{◌≡◌, ℕ, zero, suc, ◌+◌, ◌*◌, ◌<◌, ◌≤◌, List, [], ◌∷◌, ◌++◌, length, get_or, set, take, replicate, Bool, get_or-set_same, get_or-set_other, sym, refl, ap, subst, ◌∙◌, inl, inr, ⊎_elim, All, Vec, Global, append_assoc, length-append, arith}
 use Rattle.std.specs.Prelude.{Option, Some, None, is_some, true, false}
 use mathlib.Core.Logic.{dite}
 use native.Mathlib.Decide.{ℕ_discrete}
 use mathlib.Core.Option.{some, some-injective, some-ne-none}
 use lib.ListN.{get_elem?}
 use Rattle.atomic_table.specs.Table.{Me, Splits, opening}
-use Rattle.host_frames.specs.declared.rule.Opening.{Opening}
-use Rattle.host_frames.specs.declared.view.View.{View}
-use Rattle.host_frames.specs.declared.view.Claim.{Claim}
-use Rattle.host_frames.specs.declared.seat.PoolSeat.{PoolSeat}
-use Rattle.host_frames.specs.Sums.{total}
-use Rattle.host_frames.specs.Claims.{asked_by, SomeIsRefused}
-use Rattle.host_frames.specs.Views.{first_view, view_after_making, new_seat_view, gathered_view, idle_view}
-use Rattle.host_frames.specs.Homes.{IsBlankPage, IsBlankSlot, pages_at_home}
-use Rattle.host_frames.specs.Moments.{IsIdle}
-use Rattle.host_frames.specs.Seats.{HasGathered, StandsForAll, SomeSeatRefused, all_claims, claims, asked, granted, given_back}
-use Rattle.host_frames.proofs.Totals.{total_append}
+use Rattle.host_frames.specs.{Opening, View, Claim, PoolSeat, frames_in_claims, SomeIsRefused, first_view, view_after_making, new_seat_view, gathered_view, idle_view, IsBlankPage, IsBlankSlot, pages_at_home, IsIdle, HasGathered, StandsForAll, SomeSeatRefused, all_claims, claims, frames_asked, granted, given_back}
+use Rattle.host_log.specs.{total}
+use Rattle.host_log.proofs.Totals.{total_append}
 use Rattle.host_frames.proofs.Stepping as m
 use Rattle.host_frames.proofs.Seating.{opens, makes}
 
@@ -51,10 +43,10 @@ module _ {S : Type 0} where
     [],
   )))
 
-pub asked_append : (cs ds : List Claim) → asked_by (cs ++ ds) ≡ asked_by cs + asked_by ds
+pub asked_append : (cs ds : List Claim) → frames_in_claims (cs ++ ds) ≡ frames_in_claims cs + frames_in_claims ds
 asked_append cs ds = total_append (λ (c : Claim). c.asked) cs ds
 
-pub asked_all : (qs : List PoolSeat) → asked_by (all_claims qs) ≡ total asked qs
+pub asked_all : (qs : List PoolSeat) → frames_in_claims (all_claims qs) ≡ total frames_asked qs
 asked_all [] = refl
 asked_all (q ∷ qs) = let more = asked_all qs in let split = asked_append (claims q) (all_claims qs) in omega arith
 
@@ -78,8 +70,8 @@ standing qs all q m is has = let v : View = m.0 in let one = q.idle.0 in
     let gots : v.granted ≡ total granted qs + granted q = ap (λ z. z.0.granted) has in let backs : v.given_back ≡ total given_back qs + given_back q = ap (λ z. z.0.given_back) has in let cs : v.claims ≡ all_claims qs ++ claims q = ap (λ z. z.0.claims) has in
     let g : total granted all ≡ total granted qs + (granted q + 0) = ap (total granted) is ∙ total_append granted qs (q ∷ []) in
     let b : total given_back all ≡ total given_back qs + (given_back q + 0) = ap (total given_back) is ∙ total_append given_back qs (q ∷ []) in
-    let a : total asked all ≡ total asked qs + (asked q + 0) = ap (total asked) is ∙ total_append asked qs (q ∷ []) in
-    let sum : asked_by v.claims ≡ asked_by (all_claims qs) + asked q = ap asked_by cs ∙ asked_append (all_claims qs) (claims q) in let each = asked_all qs in (
+    let a : total frames_asked all ≡ total frames_asked qs + (frames_asked q + 0) = ap (total frames_asked) is ∙ total_append frames_asked qs (q ∷ []) in
+    let sum : frames_in_claims v.claims ≡ frames_in_claims (all_claims qs) + frames_asked q = ap frames_in_claims cs ∙ asked_append (all_claims qs) (claims q) in let each = asked_all qs in (
       omega arith,
       omega arith,
       omega arith,

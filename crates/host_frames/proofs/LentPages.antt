@@ -2,10 +2,7 @@
 use Rattle.std.proofs.Common.{◌≡◌, ◌<◌, ◌∙◌, ℕ, zero, suc, List, [], ◌∷◌, ◌++◌, length, map, get_or, set, take, drop, slice_get, Some, sym, refl, ap, arith}
 use Rattle.std.proofs.lemmas.List.{take-append-le}
 use Rattle.std.proofs.Math.Seq.{take-length}
-use Rattle.host_frames.specs.declared.page.Page.{Page}
-use Rattle.host_frames.specs.PageLending.{with_bytes}
-use Rattle.host_frames.specs.PagesLending.{with_page}
-use Rattle.host_frames.specs.Badges.{seen_page}
+use Rattle.host_frames.specs.{Page, with_bytes, with_page, seen_page}
 
 pub page_written : (xs : List Page) (i : ℕ) (p : Page) (ws : List ℕ) → i < length xs → p ≡ get_or xs i p → map seen_page (set xs i (with_bytes p ws)) ≡ with_page (map seen_page xs) i ws
 page_written [] i p ws lt e = absurd (omega arith)

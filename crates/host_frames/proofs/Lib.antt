@@ -1,4 +1,3 @@
-pub mod Totals
 pub mod Bits
 pub mod Stepping
 pub mod Seating

@@ -5,8 +5,7 @@ use Rattle.std.proofs.lemmas.Nat.{one_shl}
 use Rattle.std.proofs.lemmas.Nat.Bits.{bit_at-lt, bit_at-zero, bit_at_and, bit_at-pow_same, and_pow, bit_at_set_same, bit_at_set_other}
 use mathlib.Core.Logic.{dite}
 use native.Mathlib.Decide.{ℕ_discrete}
-use Rattle.host_frames.specs.Sums.{frames_in}
-use Rattle.host_frames.specs.Moments.{IsPick}
+use Rattle.host_frames.specs.{frames_in, IsPick}
 use Rattle.host_frames.proofs.Bits.{frames_from, length_more}
 
 module _ (n j : ℕ) (low : j < 64) where

@@ -7,15 +7,10 @@ use native.Mathlib.Decide.{ℕ_discrete, dec_lt}
 use lib.ListN.{get_elem?}
 use Rattle.atomic_table.specs.Table.{State, Splits, Joins, opening, Final, Seen}
 use Rattle.atomic_table.proofs.Lists.{at_set, set_else, at_snoc, at_map}
-use Rattle.host_frames.specs.declared.rule.Opening.{Opening}
-use Rattle.host_frames.specs.declared.view.View.{View}
-use Rattle.host_frames.specs.declared.view.Claim.{Claim}
-use Rattle.host_frames.specs.Sums.{total, count, claim_bit}
-use Rattle.host_frames.specs.Claims.{won_by, taken_by, asked_by, AreFair, SomeIsRefused}
-use Rattle.host_frames.specs.Views.{times_to_fetch, times_out, times_held, named_count, share_of, granted_of, given_back_of, times_won, times_taken, first_view, view_after_making, new_seat_view, packed_view, emptied_view, unpacked_view, gathered_view, spent_view, idle_view, out_view}
-use Rattle.host_frames.specs.Rule.{OnePlace}
-use Rattle.host_frames.specs.Homes.{pages_at_home}
-use Rattle.host_frames.proofs.Totals.{upto, total_set, total_snoc, total_append, total_at, total_two, total_only, count_append, upto_plus, upto_le, upto_same, upto_ones, upto_count, upto_count_le, upto_total}
+use Rattle.host_frames.specs.{Opening, View, Claim, claim_bit, won_by, taken_by, frames_in_claims, AreFair, SomeIsRefused, times_to_fetch, times_out, times_held, named_count, share_of, granted_of, given_back_of, times_won, times_taken, first_view, view_after_making, new_seat_view, packed_view, emptied_view, unpacked_view, gathered_view, spent_view, idle_view, out_view, OnePlace, pages_at_home}
+use Rattle.host_log.specs.{total, upto, occurrences}
+use Rattle.host_log.proofs.Totals.{total_set, total_snoc, total_append, total_at, total_two, total_only, upto_plus, upto_le, upto_same, upto_ones, upto_total}
+use Rattle.host_log.proofs.Counts.{count_append, upto_count, upto_count_le}
 use Rattle.std.specs.Int.{bit_at}
 use Rattle.std.proofs.lemmas.Nat.Bits.{bit_at-zero}
 use Rattle.host_frames.proofs.Bits.{claim_bit_le}
@@ -58,11 +53,11 @@ length_replicate zero a = refl
 length_replicate (suc n) a = let more = length_replicate n a in omega arith
 
 -- what all claims together have won
-fair_total : (cs : List Claim) → AreFair cs → total (λ c. length c.won) cs ≤ asked_by cs
+fair_total : (cs : List Claim) → AreFair cs → total (λ c. length c.won) cs ≤ frames_in_claims cs
 fair_total [] h = omega arith
 fair_total (c ∷ cs) h = let more = fair_total cs h.1 in let here = h.0 in omega arith
 
-refused_total : (frames : ℕ) (cs : List Claim) → AreFair cs → SomeIsRefused frames cs → total (λ c. length c.won) cs < asked_by cs
+refused_total : (frames : ℕ) (cs : List Claim) → AreFair cs → SomeIsRefused frames cs → total (λ c. length c.won) cs < frames_in_claims cs
 refused_total frames [] h p = absurd p
 refused_total frames (c ∷ cs) h p = ⊎_elim (λ t. let more = fair_total cs h.1 in let here = t.1 in omega arith) (λ t. let more = refused_total frames cs h.1 t in let here = h.0 in omega arith) p
 
@@ -158,18 +153,18 @@ module _ {P : Type 0} (IsBlank : ℕ → P → Type 0) (k : Opening) where
   pub gathers : (id : ℕ) (v : View) (other : ℕ) (w : View) → v.share ≢ 0 → Joins K id v other w (gathered_view v w) spent_view
   gathers id v other w pos s r at ne at' = let kv = r.each id v at in let b : View = gathered_view v w in let kw = r.each other w (sym (set_else s.views id other b ne) ∙ at') in
       glued s r id v other w b spent_view at at' (λ f. let a = count_append f w.to_fetch v.to_fetch in omega arith) (λ f. let a = count_append f w.frames_out v.frames_out in omega arith) (λ f. let a = count_append f w.slots_held v.slots_held in omega arith) (let d = length-append w.to_fetch v.to_fetch in let a = length-append w.frames_out v.frames_out in let c = length-append w.slots_held v.slots_held in omega arith)
-      (omega arith) (omega arith) (λ f. let a = total_append (λ (c : Claim). count f c.won) w.claims v.claims in omega arith) (λ f. let a = total_append (λ (c : Claim). count f c.taken) w.claims v.claims in omega arith) (omega arith)
+      (omega arith) (omega arith) (λ f. let a = total_append (λ (c : Claim). occurrences f c.won) w.claims v.claims in omega arith) (λ f. let a = total_append (λ (c : Claim). occurrences f c.taken) w.claims v.claims in omega arith) (omega arith)
       (fair_append w.claims v.claims kw.0 kv.0, (λ z. absurd (pos (omega arith))), λ _. kv.2 pos) (tt, (λ z. (refl, refl, refl, refl, refl)), λ no. absurd (no refl))
 
   -- who has taken in all seats knows how many pages are at home
   pub ends : (id : ℕ) (v : View) (ws : List ℕ) (xs : List (Option P)) → v.share ≡ k.seats → 1 ≤ k.seats → v.slots_held ≡ [] → v.to_fetch ≡ [] → length xs ≡ k.frames → Final (Seen K id v) ws xs
-      → (pages_at_home xs + v.granted ≡ k.frames + v.given_back) × (SomeIsRefused k.frames v.claims → k.frames < asked_by v.claims)
+      → (pages_at_home xs + v.granted ≡ k.frames + v.given_back) × (SomeIsRefused k.frames v.claims → k.frames < frames_in_claims v.claims)
   ends id v ws xs all pos empty nothing len f = let s : St = f.0 in let r = f.1.0 in let at = f.1.1 in let vs : List View = s.views in
       let quiet : (j : ℕ) (u : View) → j ≢ id → get_elem? vs j ≡ some u → (u.granted ≡ 0) × (u.given_back ≡ 0) × (u.claims ≡ []) × (u.slots_held ≡ []) × (u.to_fetch ≡ []) =
       (λ j u ne e. (r.each j u e).1 (let two = total_two share_of vs id j v u (λ z. ne (sym z)) at e in let sum = r.shares in omega arith)) in
       let gots = total_only granted_of vs id v at (λ j u ne e. (quiet j u ne e).0) in let backs = total_only given_back_of vs id v at (λ j u ne e. (quiet j u ne e).1) in
-      let no_held : (g : ℕ) → total (times_held g) vs ≡ 0 = λ g. total_only (times_held g) vs id v at (λ j u ne e. ap (count g) (quiet j u ne e).3) ∙ ap (count g) empty in
-      let no_fetch : (g : ℕ) → total (times_to_fetch g) vs ≡ 0 = λ g. total_only (times_to_fetch g) vs id v at (λ j u ne e. ap (count g) (quiet j u ne e).4) ∙ ap (count g) nothing in
+      let no_held : (g : ℕ) → total (times_held g) vs ≡ 0 = λ g. total_only (times_held g) vs id v at (λ j u ne e. ap (occurrences g) (quiet j u ne e).3) ∙ ap (occurrences g) empty in
+      let no_fetch : (g : ℕ) → total (times_to_fetch g) vs ≡ 0 = λ g. total_only (times_to_fetch g) vs id v at (λ j u ne e. ap (occurrences g) (quiet j u ne e).4) ∙ ap (occurrences g) nothing in
       let won : (g : ℕ) → total (times_won g) vs ≡ won_by g v.claims = λ g. total_only (times_won g) vs id v at (λ j u ne e. ap (won_by g) (quiet j u ne e).2) in
       let each : (g : ℕ) → g < length xs → ((claim_bit s.words g ≡ 0) × ((p : P) × (get_elem? xs g ≡ some (Some p)))) ⊎ ((claim_bit s.words g ≡ 1) × (get_elem? xs g ≡ some None)) = (λ g lt. dite (ℕ_discrete (claim_bit s.words g) 0)
       (λ free. let p = r.page_at_home g (omega arith) (omega arith) in inl (free, (p.0, f.4 g (Some p.0) p.1)))
@@ -188,8 +183,8 @@ module _ {P : Type 0} (IsBlank : ℕ → P → Type 0) (k : Opening) where
         λ some_refused.
             let every : (g : ℕ) → g < k.frames → 1 ≤ won_by g v.claims = (λ g lt. let c = refused_covers k.frames v.claims g lt fair some_refused in let t = total_at (times_taken g) vs id v at in let w = won g in dite (dec_lt 0 (won_by g v.claims)) (λ y. omega arith)
             (λ no. let y = r.taken_is_won g (omega arith) in omega arith)) in
-            let few = upto_le (λ _. 1) (λ g. won_by g v.claims) k.frames every in let ones = upto_ones k.frames in let turned = upto_total (λ g c. count g c.won) k.frames v.claims in
-            let le = total_below (λ c. upto k.frames (λ g. count g c.won)) (λ c. length c.won) v.claims (λ c. upto_count_le k.frames c.won) in let lt = refused_total k.frames v.claims fair some_refused in omega arith,
+            let few = upto_le (λ _. 1) (λ g. won_by g v.claims) k.frames every in let ones = upto_ones k.frames in let turned = upto_total (λ g c. occurrences g c.won) k.frames v.claims in
+            let le = total_below (λ c. upto k.frames (λ g. occurrences g c.won)) (λ c. length c.won) v.claims (λ c. upto_count_le k.frames c.won) in let lt = refused_total k.frames v.claims fair some_refused in omega arith,
       )
     where
       total_plus : (f g : View → ℕ) (ys : List View) → total (λ u. f u + g u) ys ≡ total f ys + total g ys

@@ -10,18 +10,13 @@ use lib.ListN.{get_elem?}
 use prog.Atomic.{either}
 use Rattle.atomic_table.specs.Table.{State, Me, step, keeps, takes, gives, Allows, put_back}
 use Rattle.atomic_table.proofs.Lists.{at_set, set_else, set_here, exchanged}
-use Rattle.host_frames.specs.declared.rule.Opening.{Opening}
-use Rattle.host_frames.specs.declared.view.View.{View}
-use Rattle.host_frames.specs.declared.view.Claim.{Claim}
+use Rattle.host_frames.specs.{Opening, View, Claim, claim_bit, frames_in, won_by, taken_by, IsFair, AreFair, times_to_fetch, times_out, times_held, named_count, share_of, granted_of, given_back_of, times_won, times_taken, IsViewQuiet, asking_view, looks, wins, won_in, on_first, looking_view, winning_view, fetching_view, first_of, others, settled_view, reached_view, returned_view, yielded_view, OnePlace, BeginsClaim, LooksAtWord, WinsFrames, FetchesPage, LeavesSlot, TakesSlot, BringsHome, GivesUp}
 use Rattle.std.specs.Int.{bit_at, bit_not, w64}
 use Rattle.std.proofs.lemmas.Nat.{mod_below}
 use Rattle.std.proofs.lemmas.Nat.Bits.{bit_at-lt, bit_at_and}
-use Rattle.host_frames.specs.Sums.{total, count, same, claim_bit, frames_in}
-use Rattle.host_frames.specs.Claims.{won_by, taken_by, IsFair, AreFair}
-use Rattle.host_frames.specs.Views.{times_to_fetch, times_out, times_held, named_count, share_of, granted_of, given_back_of, times_won, times_taken, IsQuiet, asking_view, looks, wins, won_in, on_first, looking_view, winning_view, fetching_view, first_of, others, settled_view, reached_view, returned_view, yielded_view}
-use Rattle.host_frames.specs.Rule.{OnePlace}
-use Rattle.host_frames.specs.Steps.{BeginsClaim, LooksAtWord, WinsFrames, FetchesPage, LeavesSlot, TakesSlot, BringsHome, GivesUp}
-use Rattle.host_frames.proofs.Totals.{total_set, total_at, count_append, same_here, same_else}
+use Rattle.host_log.specs.{total, occurrences, same}
+use Rattle.host_log.proofs.Totals.{total_set, total_at}
+use Rattle.host_log.proofs.Counts.{count_append, same_here, same_else}
 use Rattle.host_frames.proofs.Bits.{claim_bit_le, claimed_word, in_word, not_in_word, found_taken, mask_taken, won_bits, won_le, but, cleared, cleared_here, cleared_else}
 
 pub length_set : {A : Type 0} (xs : List A) (i : ℕ) (a : A) → length (set xs i a) ≡ length xs
@@ -34,7 +29,7 @@ pub won_looks : (f i n : ℕ) (cs : List Claim) → won_by f (on_first (looks i 
 won_looks f i n [] = refl
 won_looks f i n (c ∷ cs) = refl
 
-pub taken_looks : (f i n : ℕ) (cs : List Claim) → taken_by f (on_first (looks i n) cs) ≤ count f (frames_in i n) + taken_by f cs
+pub taken_looks : (f i n : ℕ) (cs : List Claim) → taken_by f (on_first (looks i n) cs) ≤ occurrences f (frames_in i n) + taken_by f cs
 taken_looks f i n [] = omega arith
 taken_looks f i n (c ∷ cs) = let a = count_append f (frames_in i n) c.taken in omega arith
 
@@ -43,10 +38,10 @@ fair_looks i n [] h = h
 fair_looks i n (c ∷ cs) h = h
 
 -- what it gains where it sets bits
-pub won_wins : (f i mask n : ℕ) (c : Claim) (cs : List Claim) → won_by f (on_first (wins i mask n) (c ∷ cs)) ≡ count f (won_in i mask n) + won_by f (c ∷ cs)
+pub won_wins : (f i mask n : ℕ) (c : Claim) (cs : List Claim) → won_by f (on_first (wins i mask n) (c ∷ cs)) ≡ occurrences f (won_in i mask n) + won_by f (c ∷ cs)
 won_wins f i mask n c cs = let a = count_append f (won_in i mask n) c.won in omega arith
 
-pub taken_wins : (f i mask n : ℕ) (c : Claim) (cs : List Claim) → taken_by f (on_first (wins i mask n) (c ∷ cs)) ≡ count f (frames_in i (bit_and mask n)) + taken_by f (c ∷ cs)
+pub taken_wins : (f i mask n : ℕ) (c : Claim) (cs : List Claim) → taken_by f (on_first (wins i mask n) (c ∷ cs)) ≡ occurrences f (frames_in i (bit_and mask n)) + taken_by f (c ∷ cs)
 taken_wins f i mask n c cs = let a = count_append f (frames_in i (bit_and mask n)) c.taken in omega arith
 
 pub fair_wins : (i mask n : ℕ) (c : Claim) → length c.won + length (frames_in i mask) ≤ c.asked → IsFair (wins i mask n c)
@@ -66,7 +61,7 @@ module _ {P : Type 0} (IsBlank : ℕ → P → Type 0) (k : Opening) where
   Home hs f = (p : P) × (get_elem? hs f ≡ some (some (Some p))) × IsBlank k.page_size p
 
   abbrev pub Known : View → Type 0
-  Known v = AreFair v.claims × IsQuiet v × (v.share ≢ 0 → v.page_size ≡ k.page_size)
+  Known v = AreFair v.claims × IsViewQuiet v × (v.share ≢ 0 → v.page_size ≡ k.page_size)
 
   -- what stays where one view changes
   pub moved : (s : St) (r : K s) (id : ℕ) (v w : View) (words' : List ℕ) (homes' : List (maybe.Option (Option P))) → get_elem? s.views id ≡ some v → length words' ≡ length s.words
@@ -151,17 +146,17 @@ module _ {P : Type 0} (IsBlank : ℕ → P → Type 0) (k : Opening) where
       → Allows K n id me i (λ x. bit_or x mask) (WinsFrames IsBlank (step n i mask 0 none) me)
   wins_keeps n id i mask me c cs seat its few word_in mask_in s r wide at small = let v : View = me.0 in let x : ℕ = get_or s.words i 0 in let w : View = winning_view i mask x v in let ws : List ℕ = set s.words i (bit_or x mask) in let known = r.each id v at in let l = r.words_suffice in
       let lt : i < length s.words = omega arith in
-      let bits : (f : ℕ) → claim_bit ws f ≡ claim_bit s.words f + count f (won_in i mask x) = λ f. won_bits s.words i mask f lt small in
-      let fetch : (f : ℕ) → times_to_fetch f w ≡ count f (won_in i mask x) + times_to_fetch f v = λ f. count_append f (won_in i mask x) v.to_fetch in
-      let won : (f : ℕ) → times_won f w ≡ count f (won_in i mask x) + times_won f v = λ f. ap (λ z. won_by f (on_first (wins i mask x) z)) its ∙ (won_wins f i mask x c cs ∙ ap (λ z. count f (won_in i mask x) + won_by f z) (sym its)) in
-      let taken : (f : ℕ) → times_taken f w ≡ count f (frames_in i (bit_and mask x)) + times_taken f v = λ f. ap (λ z. taken_by f (on_first (wins i mask x) z)) its ∙ (taken_wins f i mask x c cs ∙ ap (λ z. count f (frames_in i (bit_and mask x)) + taken_by f z) (sym its)) in
+      let bits : (f : ℕ) → claim_bit ws f ≡ claim_bit s.words f + occurrences f (won_in i mask x) = λ f. won_bits s.words i mask f lt small in
+      let fetch : (f : ℕ) → times_to_fetch f w ≡ occurrences f (won_in i mask x) + times_to_fetch f v = λ f. count_append f (won_in i mask x) v.to_fetch in
+      let won : (f : ℕ) → times_won f w ≡ occurrences f (won_in i mask x) + times_won f v = λ f. ap (λ z. won_by f (on_first (wins i mask x) z)) its ∙ (won_wins f i mask x c cs ∙ ap (λ z. occurrences f (won_in i mask x) + won_by f z) (sym its)) in
+      let taken : (f : ℕ) → times_taken f w ≡ occurrences f (frames_in i (bit_and mask x)) + times_taken f v = λ f. ap (λ z. taken_by f (on_first (wins i mask x) z)) its ∙ (taken_wins f i mask x c cs ∙ ap (λ z. occurrences f (frames_in i (bit_and mask x)) + taken_by f z) (sym its)) in
       let long = length-append (won_in i mask x) v.to_fetch in let fair : AreFair (c ∷ cs) = subst AreFair its known.0 in (
         w,
         keeps,
         tt,
         moved s r id v w ws s.homes at (length_set s.words i (bit_or x mask))
             (λ f. let a = fetch f in let b = bits f in omega arith)
-            (λ f le. let b = bits f in let o = r.none_beyond f le in let none : count f (won_in i mask x) ≡ 0 = beyond f le in omega arith)
+            (λ f le. let b = bits f in let o = r.none_beyond f le in let none : occurrences f (won_in i mask x) ≡ 0 = beyond f le in omega arith)
             (λ f b le. let t = total_set (times_to_fetch f) s.views id v w at in let a = fetch f in let e = bits f in r.page_at_home f b (omega arith))
             (λ f h. let b = total_set (times_out f) s.views id v w at in r.slot_empty f (omega arith))
             (omega arith)
@@ -172,7 +167,7 @@ module _ {P : Type 0} (IsBlank : ℕ → P → Type 0) (k : Opening) where
         refl,
       )
     where
-      beyond : (f : ℕ) → k.frames ≤ f → count f (won_in i mask (get_or s.words i 0)) ≡ 0
+      beyond : (f : ℕ) → k.frames ≤ f → occurrences f (won_in i mask (get_or s.words i 0)) ≡ 0
       beyond f le = let y : ℕ = get_or s.words i 0 in dite (ℕ_discrete (f / 64) i)
           (λ e. let b : ℕ = f % 64 in let low = mod_below f 64 (omega arith) in let here = in_word i (bit_and mask (bit_not w64 y)) f e in let and = bit_at_and mask (bit_not w64 y) b in let one = bit_at-lt mask b in dite (ℕ_discrete (bit_at mask b) 1)
           (λ set. let no = mask_in b low set in absurd (omega arith))
@@ -182,7 +177,7 @@ module _ {P : Type 0} (IsBlank : ℕ → P → Type 0) (k : Opening) where
   -- the slot of a frame that was won is taken
   pub fetches_keeps : (n id : ℕ) (me : M) → me.0.share ≡ 1 → me.0.to_fetch ≡ first_of me.0.to_fetch ∷ others me.0.to_fetch → Allows K n id me 0 (λ x. x) (FetchesPage IsBlank (step n 0 0 0 none) me)
   fetches_keeps n id me seat its s r wide at small = let v : View = me.0 in let f : ℕ = first_of v.to_fetch in let w : View = fetching_view v in let known = r.each id v at in
-      let was : (g : ℕ) → times_to_fetch g v ≡ same g f + count g (others v.to_fetch) = λ g. ap (count g) its in
+      let was : (g : ℕ) → times_to_fetch g v ≡ same g f + occurrences g (others v.to_fetch) = λ g. ap (occurrences g) its in
       let long = less_long v.to_fetch its in let has : 1 ≤ times_to_fetch f v = (let a = was f in let b = same_here f in omega arith) in
       let taken = is_claimed s r id v f at (omega arith) in let all = total_at (times_to_fetch f) s.views id v at in let bit = taken.0 in
       let home = r.page_at_home f taken.1 (omega arith) in let bytes : v.page_size ≡ k.page_size = known.2 (λ z. absurd (omega arith)) in (
@@ -206,7 +201,7 @@ module _ {P : Type 0} (IsBlank : ℕ → P → Type 0) (k : Opening) where
   pub leaves_keeps : (n id : ℕ) (me : M) (l : List (ℕ × Option P)) → n ≡ k.frames → me.0.share ≡ 1 → me.0.slots_held ≡ first_of me.0.slots_held ∷ others me.0.slots_held → me.1 ≡ (first_of me.0.slots_held, None) ∷ l
       → Allows K n id me 0 (λ x. x) (LeavesSlot IsBlank (step n 0 0 0 none) me)
   leaves_keeps n id me l slots seat its has s r wide at small = let v : View = me.0 in let f : ℕ = first_of v.slots_held in let w : View = settled_view v in let known = r.each id v at in
-      let was : (g : ℕ) → times_held g v ≡ same g f + count g (others v.slots_held) = λ g. ap (count g) its in
+      let was : (g : ℕ) → times_held g v ≡ same g f + occurrences g (others v.slots_held) = λ g. ap (occurrences g) its in
       let long = less_long v.slots_held its in let held : 1 ≤ times_held f v = (let a = was f in let b = same_here f in omega arith) in
       let taken = is_claimed s r id v f at (omega arith) in let bit = taken.0 in
       let put : put_back s.homes me.1 ≡ set s.homes f (some None) = ap (put_back s.homes) has in (
@@ -227,7 +222,7 @@ module _ {P : Type 0} (IsBlank : ℕ → P → Type 0) (k : Opening) where
 
   pub takes_keeps : (n id : ℕ) (me : M) → me.0.share ≡ 1 → me.0.frames_out ≡ first_of me.0.frames_out ∷ others me.0.frames_out → Allows K n id me 0 (λ x. x) (TakesSlot IsBlank (step n 0 0 0 none) me)
   takes_keeps n id me seat its s r wide at small = let v : View = me.0 in let f : ℕ = first_of v.frames_out in let w : View = reached_view v in let known = r.each id v at in
-      let was : (g : ℕ) → times_out g v ≡ same g f + count g (others v.frames_out) = λ g. ap (count g) its in
+      let was : (g : ℕ) → times_out g v ≡ same g f + occurrences g (others v.frames_out) = λ g. ap (occurrences g) its in
       let long = less_long v.frames_out its in
       let pos : 1 ≤ times_out f v = (let a = was f in let b = same_here f in omega arith) in
       let taken = is_claimed s r id v f at (omega arith) in let bit = taken.0 in let all = total_at (times_out f) s.views id v at in (
@@ -252,17 +247,17 @@ module _ {P : Type 0} (IsBlank : ℕ → P → Type 0) (k : Opening) where
       → w.to_fetch ≡ me.0.to_fetch → w.frames_out ≡ me.0.frames_out → w.slots_held ≡ others me.0.slots_held → named_count w + given_back_of w + granted_of me.0 ≡ named_count me.0 + given_back_of me.0 + granted_of w → w.claims ≡ me.0.claims → w.share ≡ me.0.share → w.page_size ≡ me.0.page_size
       → (s : St) → K s → length s.homes ≡ n → get_elem? s.views id ≡ some me.0 → K record { words = cleared s.words (first_of me.0.slots_held); homes = put_back s.homes me.1; views = set s.views id w }
   clears n id me w p l slots seat its has blank ef eo eh count_same ec ep ey s r wide at = let v : View = me.0 in let f : ℕ = first_of v.slots_held in let known = r.each id v at in
-      let was : (g : ℕ) → times_held g v ≡ same g f + count g (others v.slots_held) = λ g. ap (count g) its in
+      let was : (g : ℕ) → times_held g v ≡ same g f + occurrences g (others v.slots_held) = λ g. ap (occurrences g) its in
       let held : 1 ≤ times_held f v = (let a = was f in let b = same_here f in omega arith) in
       let taken = is_claimed s r id v f at (omega arith) in let bit = taken.0 in let lt = taken.2 in let ws : List ℕ = cleared s.words f in
       let put : put_back s.homes me.1 ≡ set s.homes f (some (Some p)) = ap (put_back s.homes) has in let bytes : v.page_size ≡ k.page_size = known.2 (λ z. absurd (omega arith)) in
       moved s r id v w ws (put_back s.homes me.1) at (length_set s.words (f / 64) (bit_and (get_or s.words (f / 64) 0) (but (f % 64))))
-      (λ g. let a = was g in let d = ap (count g) ef in let b = ap (count g) eo in let h = ap (count g) eh in let c = cleared_same s.words f g lt bit in omega arith)
+      (λ g. let a = was g in let d = ap (occurrences g) ef in let b = ap (occurrences g) eo in let h = ap (occurrences g) eh in let c = cleared_same s.words f g lt bit in omega arith)
       (λ g le. let below = taken.1 in cleared_else s.words f g lt (λ e. absurd (omega arith)) ∙ r.none_beyond g le)
       (λ g b le. dite (ℕ_discrete g f)
       (λ e. (p, ap (λ hs. get_elem? hs g) put ∙ (ap (λ i. get_elem? (set s.homes f (some (Some p))) i) e ∙ set_here s.homes f (some (Some p)) (let below = taken.1 in omega arith)), subst (λ z. IsBlank z p) bytes blank))
-      (λ ne. let same_bit = cleared_else s.words f g lt ne in let le' = same_fetch s id v w g at (ap (count g) ef) (omega arith) in let old = r.page_at_home g b le' in (old.0, ap (λ hs. get_elem? hs g) put ∙ (set_else s.homes f g (some (Some p)) ne ∙ old.1), old.2)))
-      (λ g h. let b = total_set (times_out g) s.views id v w at in let e = ap (count g) eo in let ne : g ≢ f = (λ e'. let o = r.one_place g in let one : claim_bit s.words g ≡ 1 = ap (claim_bit s.words) e' ∙ bit in
+      (λ ne. let same_bit = cleared_else s.words f g lt ne in let le' = same_fetch s id v w g at (ap (occurrences g) ef) (omega arith) in let old = r.page_at_home g b le' in (old.0, ap (λ hs. get_elem? hs g) put ∙ (set_else s.homes f g (some (Some p)) ne ∙ old.1), old.2)))
+      (λ g h. let b = total_set (times_out g) s.views id v w at in let e = ap (occurrences g) eo in let ne : g ≢ f = (λ e'. let o = r.one_place g in let one : claim_bit s.words g ≡ 1 = ap (claim_bit s.words) e' ∙ bit in
       let d : same g f ≡ 1 = ap (λ z. same z f) e' ∙ same_here f in let a = was g in let th = total_at (times_held g) s.views id v at in absurd (omega arith)) in ap (λ hs. get_elem? hs g) put ∙ (set_else s.homes f g (some (Some p)) ne ∙ r.slot_empty g (omega arith)))
       count_same
       (λ g. let e = ap (won_by g) ec in omega arith)

@@ -3,11 +3,7 @@ use Rattle.std.proofs.Common.{◌≡◌, ℕ, ◌/◌, ◌%◌, ◌≤◌, List,
 use Rattle.std.specs.Prelude.{Option, Some, None}
 use mathlib.Core.Option.{none}
 use Rattle.atomic_table.specs.Table.{Me, step, Allows, rest}
-use Rattle.host_frames.specs.declared.rule.Opening.{Opening}
-use Rattle.host_frames.specs.declared.view.View.{View}
-use Rattle.host_frames.specs.Views.{first_of, others, fetching_view}
-use Rattle.host_frames.specs.Steps.{FetchesPage, LeavesSlot, TakesSlot, BringsHome, GivesUp}
-use Rattle.host_frames.specs.Moments.{IsNextToFetch, IsNextHome}
+use Rattle.host_frames.specs.{Opening, View, first_of, others, fetching_view, FetchesPage, LeavesSlot, TakesSlot, BringsHome, GivesUp, IsNextToFetch, IsNextHome}
 use Rattle.host_frames.proofs.Bits.{but}
 use Rattle.host_frames.proofs.Stepping as m
 

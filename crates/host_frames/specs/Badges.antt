@@ -31,7 +31,7 @@ abbrev pub seen_page : Page → ℕ × List ℕ
 seen_page q = (q.frame, q.bytes.items)
 
 -- what holds of pages and the badge that goes with them
-pub record IsWhole (views : List View) (words : ℕ) (ps : List Page) : Type 0 where
+pub record ArePagesWhole (views : List View) (words : ℕ) (ps : List Page) : Type 0 where
   pub is_alone : views ≡ alone views
   pub named : badge_frames views ≡ frames_of_pages ps
   pub few : length ps < 2 ^ 32

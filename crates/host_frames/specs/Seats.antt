@@ -1,15 +1,16 @@
 -- What a clause says of a pool, its seats and its pages.
 use Rattle.std.specs.Prelude.{◌≡◌, ◌⊎◌, ℕ, ◌+◌, List, [], ◌∷◌, ◌++◌, map, length}
 use Rattle.atomic_table.specs.Table.{Me}
-use Rattle.host_frames.specs.Sums.{total}
+use Rattle.host_log.specs.Sums.{total}
 use Rattle.atomic_table.specs.Seated.{TableId}
 use Rattle.host_frames.specs.declared.view.View.{View}
 use Rattle.host_frames.specs.declared.view.Claim.{Claim}
 use Rattle.host_frames.specs.declared.pool.Pool.{Pool}
 use Rattle.host_frames.specs.declared.seat.PoolSeat.{PoolSeat}
-use Rattle.host_frames.specs.Claims.{asked_by, SomeIsRefused}
+use Rattle.host_frames.specs.Claims.{frames_in_claims, SomeIsRefused}
 
--- pages as contracts see them: which pool it is, how many pages fit, and the frame and the bytes of each
+-- pages as contracts see them: which pool it is, how many pages fit, and the frame and the bytes of
+-- each
 abbrev pub SeenPages : Type 0
 SeenPages = (TableId × ℕ) × (ℕ × List (ℕ × List ℕ))
 
@@ -50,8 +51,8 @@ abbrev pub claims : PoolSeat → List Claim
 claims q = q.seat.me.0.claims
 
 -- how many frames its claims asked for
-abbrev pub asked : PoolSeat → ℕ
-asked q = asked_by (claims q)
+abbrev pub frames_asked : PoolSeat → ℕ
+frames_asked q = frames_in_claims (claims q)
 
 -- how many frames its claims got, a refused one none
 abbrev pub granted : PoolSeat → ℕ
@@ -77,8 +78,26 @@ all_claims (q ∷ qs) = claims q ++ all_claims qs
 
 -- a seat stands for all these, with their claims and numbers
 abbrev pub StandsForAll : {S : Type 0} → List PoolSeat → Me S View → Type 0
-StandsForAll qs m = (m.0.share ≡ length qs) × (m.0.granted ≡ total granted qs) × (m.0.given_back ≡ total given_back qs) × (asked_by m.0.claims ≡ total asked qs) × ((n : ℕ) → SomeSeatRefused n qs → SomeIsRefused n m.0.claims) × (m.0.to_fetch ≡ []) × (m.0.slots_held ≡ []) × (m.1 ≡ [])
+StandsForAll qs m =
+    (m.0.share ≡ length qs) × (m.0.granted ≡ total granted qs)
+    × (m.0.given_back ≡ total given_back qs) × (frames_in_claims m.0.claims ≡ total frames_asked qs)
+    × ((n : ℕ) → SomeSeatRefused n qs → SomeIsRefused n m.0.claims) × (m.0.to_fetch ≡ [])
+    × (m.0.slots_held ≡ []) × (m.1 ≡ [])
 
 -- a seat with the view v has taken in all these
 abbrev pub HasGathered : {S : Type 0} → View → List PoolSeat → Me S View → Type 0
-HasGathered v qs m = m ≡ (record { share = length qs + 1; page_size = v.page_size; granted = total granted qs + v.granted; given_back = total given_back qs + v.given_back; claims = all_claims qs ++ v.claims; to_fetch = []; frames_out = []; slots_held = [] }, [])
+HasGathered v qs m =
+    m
+    ≡ (
+      record {
+        share = length qs + 1;
+        page_size = v.page_size;
+        granted = total granted qs + v.granted;
+        given_back = total given_back qs + v.given_back;
+        claims = all_claims qs ++ v.claims;
+        to_fetch = [];
+        frames_out = [];
+        slots_held = [];
+      },
+      [],
+    )

@@ -1,7 +1,10 @@
--- What each step of a seat tells. A step finds the number r, and m becomes m', a view with the slots that the seat holds.
+-- What each step of a seat tells. A step finds the number r, and m becomes m', a view with the
+-- slots that the seat holds.
 use Rattle.std.specs.Prelude.{◌≡◌, ℕ, ◌∷◌, Option, Some, None}
 use Rattle.host_frames.specs.declared.view.View.{View}
-use Rattle.host_frames.specs.Views.{asking_view, looking_view, winning_view, fetching_view, first_of, settled_view, reached_view, returned_view, yielded_view}
+use Rattle.host_frames.specs.Views.{asking_view, looking_view, winning_view, fetching_view}
+use Rattle.host_frames.specs.Views.{first_of, settled_view, reached_view, returned_view}
+use Rattle.host_frames.specs.Views.{yielded_view}
 use Rattle.atomic_table.specs.Table.{Me, Step, rest}
 
 module _ {P : Type 0} (IsBlank : ℕ → P → Type 0) where
@@ -16,13 +19,16 @@ module _ {P : Type 0} (IsBlank : ℕ → P → Type 0) where
   abbrev pub LooksAtWord : Step (Option P) → Seated → ℕ → Seated → Type 0
   LooksAtWord st m r m' = m' ≡ (looking_view st.word r m.0, m.1)
 
-  -- of the bits that the operand sets, those that were clear are won, and the others were found taken
+  -- of the bits that the operand sets, those that were clear are won, and the others were found
+  -- taken
   abbrev pub WinsFrames : Step (Option P) → Seated → ℕ → Seated → Type 0
   WinsFrames st m r m' = m' ≡ (winning_view st.word st.first r m.0, m.1)
 
   -- the slot of the first frame to fetch is taken, with its blank page
   abbrev pub FetchesPage : Step (Option P) → Seated → ℕ → Seated → Type 0
-  FetchesPage st m r m' = (p : P) × (m' ≡ (fetching_view m.0, (first_of m.0.to_fetch, Some p) ∷ m.1)) × IsBlank m.0.page_size p
+  FetchesPage st m r m' =
+      (p : P) × (m' ≡ (fetching_view m.0, (first_of m.0.to_fetch, Some p) ∷ m.1))
+      × IsBlank m.0.page_size p
 
   -- the slot that was taken last goes home empty
   abbrev pub LeavesSlot : Step (Option P) → Seated → ℕ → Seated → Type 0

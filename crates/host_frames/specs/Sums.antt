@@ -1,20 +1,6 @@
--- Sums, counts and claim bits.
-use Rattle.std.specs.Prelude.{◌==◌, ℕ, zero, suc, ◌+◌, ◌*◌, ◌/◌, ◌%◌, cond, List, [], ◌∷◌, get_or}
+-- Claim bits, and the frames that they stand for.
+use Rattle.std.specs.Prelude.{ℕ, zero, suc, ◌+◌, ◌*◌, ◌/◌, ◌%◌, List, [], ◌∷◌, get_or}
 use Rattle.std.specs.Int.{bit_at}
-
--- the values of a function on a list, added up
-abbrev pub total : {A : Type 0} → (A → ℕ) → List A → ℕ
-total f [] = 0
-total f (x ∷ xs) = f x + total f xs
-
--- 1 where the numbers are equal
-abbrev pub same : ℕ → ℕ → ℕ
-same a b = cond (a == b) 1 0
-
--- how often k stands in the list
-abbrev pub count : ℕ → List ℕ → ℕ
-count k [] = 0
-count k (x ∷ xs) = same k x + count k xs
 
 -- the claim bit of a frame: the bit j of word i is that of frame 64 i + j
 abbrev pub claim_bit : List ℕ → ℕ → ℕ

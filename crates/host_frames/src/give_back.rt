@@ -3,8 +3,9 @@ ghost use Rattle.std.specs.Prelude.{◌≡◌, ◌+◌, ◌/◌, ◌<◌, [], �
 ghost use Rattle.host_frames.specs.Views.{reached_view, returned_view};
 ghost use Rattle.host_frames.specs.Homes.{IsBlankPage};
 ghost use Rattle.host_frames.specs.Badges.{IsInWords, frames_of_pages};
-ghost use Rattle.host_frames.specs.Moments.{IsNextHome, HasPut, returning_view};
-ghost use Rattle.host_frames.specs.Seats.{pool_id, seat_pool, pages_pool, contents, claims, granted, given_back};
+ghost use Rattle.host_frames.specs.Moments.{IsNextHome, HasPutPage, returning_view};
+ghost use Rattle.host_frames.specs.Seats.{pool_id, seat_pool, pages_pool, contents, claims};
+ghost use Rattle.host_frames.specs.Seats.{granted, given_back};
 
 use crate::page::Page;
 use crate::pages::Pages;
@@ -19,7 +20,8 @@ impl Pool {
     pub fn give_back(&self, seat: &mut PoolSeat, pages: Pages)
         requires seat { seat_pool seat.old ≡ pool_id self.now }
         requires pages { pages_pool pages ≡ pool_id self.now }
-        ensures seat { (seat_pool seat.new ≡ seat_pool seat.old) × (claims seat.new ≡ claims seat.old) × (granted seat.new ≡ granted seat.old) }
+        ensures seat { (seat_pool seat.new ≡ seat_pool seat.old)
+            × (claims seat.new ≡ claims seat.old) × (granted seat.new ≡ granted seat.old) }
         ensures given_back { given_back seat.new ≡ given_back seat.old + length (contents pages) }
     {
         let Pages { all, badge } = pages;
@@ -34,9 +36,11 @@ impl Pool {
 
     fn bring_home(&self, seat: &mut Seat<Option<Vec<u8>>, View>, mut all: Vec<Page>)
         requires table { seat.old.table_id ≡ self.now.table.shared.table_id }
-        requires seat { (seat.old.me.0.share ≡ 1) × (seat.old.me.0.slots_held ≡ []) × (seat.old.me.1 ≡ []) }
+        requires seat { (seat.old.me.0.share ≡ 1) × (seat.old.me.0.slots_held ≡ [])
+            × (seat.old.me.1 ≡ []) }
         requires in_words { All (IsInWords self.now.table.shared.table_id.words) all.items }
-        requires pages { (frames_of_pages all.items ≡ seat.old.me.0.frames_out) × All (λ p. length p.bytes.items ≡ seat.old.me.0.page_size) all.items }
+        requires pages { (frames_of_pages all.items ≡ seat.old.me.0.frames_out)
+            × All (λ p. length p.bytes.items ≡ seat.old.me.0.page_size) all.items }
         ensures same { (seat.new.table_id ≡ seat.old.table_id) × (seat.new.id ≡ seat.old.id) }
         ensures given_back { seat.new.me ≡ (returning_view seat.old.me.0 [], []) }
     {
@@ -51,7 +55,7 @@ impl Pool {
     fn bring_frame_home(&self, seat: &mut Seat<Option<Vec<u8>>, View>, frame: u32)
         requires table { seat.old.table_id ≡ self.now.table.shared.table_id }
         requires word { frame / 64 < self.now.table.shared.table_id.words }
-        requires page { HasPut frame seat.old.me }
+        requires page { HasPutPage frame seat.old.me }
         ensures same { (seat.new.table_id ≡ seat.old.table_id) × (seat.new.id ≡ seat.old.id) }
         ensures home { seat.new.me ≡ (returned_view seat.old.me.0, []) }
     {
@@ -68,7 +72,7 @@ impl Pool {
         requires blank { IsBlankPage seat.old.me.0.page_size page }
         ensures same { (seat.new.table_id ≡ seat.old.table_id) × (seat.new.id ≡ seat.old.id) }
         ensures put { seat.new.me ≡ (reached_view seat.old.me.0, (frame, Some page) ∷ []) }
-        ensures has_put { HasPut frame seat.new.me }
+        ensures has_put { HasPutPage frame seat.new.me }
     {
         let shared = &self.table.shared;
         shared.load::<TakeSlot>(seat, 0);

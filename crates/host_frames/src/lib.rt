@@ -1,4 +1,5 @@
-//! The pool of buffer pages: pages move by value, and words of claim bits say which frames are taken.
+//! The pool of buffer pages: pages move by value, and words of claim bits say which frames are
+//! taken.
 #![tactic(auto)]
 
 mod claim;

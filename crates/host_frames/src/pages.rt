@@ -11,7 +11,8 @@ use std::marker::Model;
 
 /// Pages of one pool, each one block long, or none yet. No other owner has a page of them.
 ///
-/// With them goes the badge of a seat that names their frames. Contracts see which pool it is, how many pages fit, and each page's frame and bytes.
+/// With them goes the badge of a seat that names their frames. Contracts see which pool it is, how
+/// many pages fit, and each page's frame and bytes.
 #[derive(Drop)]
 pub struct Pages {
     pub(crate) all: Vec<Page>,
@@ -22,15 +23,19 @@ impl Model for Pages {
     ghost use Rattle.std.specs.Prelude.{ℕ, List, map, vec_capacity};
     ghost use base.Stored.{coded×, coded_ℕ, coded_list};
     ghost use Rattle.atomic_table.specs.Seated.{TableId, table_id_coded};
-    ghost use Rattle.host_frames.specs.Badges.{IsWhole, badge_page_size, seen_page};
+    ghost use Rattle.host_frames.specs.Badges.{ArePagesWhole, badge_page_size, seen_page};
 
     ghost Value = { (TableId × ℕ) × (ℕ × List (ℕ × List ℕ)) };
 
-    ghost coded = { coded× (coded× table_id_coded coded_ℕ) (coded× coded_ℕ (coded_list (coded× coded_ℕ (coded_list coded_ℕ)))) };
+    ghost coded = { coded× (coded× table_id_coded coded_ℕ)
+        (coded× coded_ℕ (coded_list (coded× coded_ℕ (coded_list coded_ℕ)))) };
 
-    ghost view = { λ p. ((p.badge.table_id, badge_page_size p.badge.views), (vec_capacity p.all, map seen_page p.all.items)) };
+    ghost view = { λ p. (
+      (p.badge.table_id, badge_page_size p.badge.views),
+      (vec_capacity p.all, map seen_page p.all.items),
+    ) };
 
-    ghost invariant = { λ p. IsWhole p.badge.views p.badge.table_id.words p.all.items };
+    ghost invariant = { λ p. ArePagesWhole p.badge.views p.badge.table_id.words p.all.items };
 }
 
 impl Pages {

@@ -1,7 +1,8 @@
 //! The pool: how it is made with its seats, and closed with all of them.
-ghost use Rattle.std.specs.Prelude.{◌≡◌, ℕ, ◌+◌, ◌*◌, ◌^◌, ◌<◌, ◌≤◌, [], false, replicate, slice_index_or, IfOk, vec_len, vec_capacity, All};
+ghost use Rattle.std.specs.Prelude.{◌≡◌, ℕ, ◌+◌, ◌*◌, ◌^◌, ◌<◌, ◌≤◌, [], false, replicate};
+ghost use Rattle.std.specs.Prelude.{slice_index_or, IfOk, vec_len, vec_capacity, All};
 ghost use Rattle.std.specs.Slots.{slots_items, slots_filled, slots_len, IsFull};
-ghost use Rattle.host_frames.specs.Sums.{total};
+ghost use Rattle.host_log.specs.Sums.{total};
 ghost use Rattle.host_frames.specs.Homes.{IsBlankSlot, pages_at_home};
 
 use crate::rule::{FrameRule, Opening};
@@ -27,9 +28,12 @@ pub struct Pool {
 
 impl Pool {
     ghost use Rattle.host_frames.specs.Moments.{IsIdle};
-    ghost use Rattle.host_frames.specs.Claims.{SomeIsRefused, asked_by};
+    ghost use Rattle.host_frames.specs.Claims.{SomeIsRefused, frames_in_claims};
     ghost use Rattle.host_frames.specs.Views.{idle_view};
-    ghost use Rattle.host_frames.specs.Seats.{IsNewSeat, HasGathered, StandsForAll, SomeSeatRefused, pool_id, seat_pool, page_size, frame_count, seat_count, asked, granted, given_back};
+    ghost use Rattle.host_frames.specs.Seats.{IsNewSeat, HasGathered, StandsForAll};
+    ghost use Rattle.host_frames.specs.Seats.{SomeSeatRefused, pool_id, seat_pool, page_size};
+    ghost use Rattle.host_frames.specs.Seats.{frame_count, seat_count, frames_asked, granted};
+    ghost use Rattle.host_frames.specs.Seats.{given_back};
 
     /// A pool of blank pages, with its seats. It has `Oom` for an answer only for want of memory.
     pub fn new(
@@ -39,8 +43,10 @@ impl Pool {
         seats: u32,
     ) -> Result<(Pool, Vec<PoolSeat>), Oom>
         requires { (1 ≤ frames) × (1 ≤ seats) }
-        ensures pool { IfOk result (λ r. (frame_count r.0 ≡ frames) × (page_size r.0 ≡ size) × (seat_count r.0 ≡ seats)) }
-        ensures seats { IfOk result (λ r. (vec_len r.1 ≡ seats) × All (IsNewSeat (pool_id r.0)) r.1.items) }
+        ensures pool { IfOk result (λ r.
+            (frame_count r.0 ≡ frames) × (page_size r.0 ≡ size) × (seat_count r.0 ≡ seats)) }
+        ensures seats { IfOk result
+            (λ r. (vec_len r.1 ≡ seats) × All (IsNewSeat (pool_id r.0)) r.1.items) }
     {
         let page_size = size.bytes();
         let Ok(mut all) = Vec::with_capacity(alloc, seats as usize) else {
@@ -73,7 +79,8 @@ impl Pool {
         seats: u32,
         all: &mut Vec<PoolSeat>,
     )
-        requires maker { (maker.old.table_id ≡ self.now.table.shared.table_id) × (maker.old.me ≡ (idle_view seats (page_size self.now), [])) }
+        requires maker { (maker.old.table_id ≡ self.now.table.shared.table_id)
+            × (maker.old.me ≡ (idle_view seats (page_size self.now), [])) }
         requires room { (all.old.items ≡ []) × (seats ≤ vec_capacity all.old) }
         ensures count { vec_len all.new ≡ seats }
         ensures seats { All (IsNewSeat (pool_id self.now)) all.new.items }
@@ -88,8 +95,10 @@ impl Pool {
     pub fn close(self, seats: Vec<PoolSeat>) -> u32
         requires all { vec_len seats ≡ seat_count self }
         requires seats { All (λ q. seat_pool q ≡ pool_id self) seats.items }
-        ensures home { result + total granted seats.items ≡ frame_count self + total given_back seats.items }
-        ensures refused { SomeSeatRefused (frame_count self) seats.items → frame_count self < total asked seats.items }
+        ensures home { result + total granted seats.items
+            ≡ frame_count self + total given_back seats.items }
+        ensures refused { SomeSeatRefused (frame_count self) seats.items
+            → frame_count self < total frames_asked seats.items }
     {
         let base = self.gather_all(seats);
         self.close_with(base)
@@ -101,7 +110,8 @@ impl Pool {
         requires all { base.me.0.share ≡ seat_count self }
         requires idle { (base.me.0.to_fetch ≡ []) × (base.me.0.slots_held ≡ []) × (base.me.1 ≡ []) }
         ensures home { result + base.me.0.granted ≡ frame_count self + base.me.0.given_back }
-        ensures refused { SomeIsRefused (frame_count self) base.me.0.claims → frame_count self < asked_by base.me.0.claims }
+        ensures refused { SomeIsRefused (frame_count self) base.me.0.claims
+            → frame_count self < frames_in_claims base.me.0.claims }
     {
         let Pool { table, frames: _ } = self;
         let mut closed = table.close_with(base);
@@ -163,7 +173,8 @@ fn count_home(closed: &mut Closed<Option<Vec<u8>>, Global>) -> u32
     requires full { IsFull closed.old.slots }
     requires few { slots_len closed.old.slots < 2 ^ 32 }
     ensures home { result ≡ pages_at_home (slots_items closed.old.slots) }
-    ensures taken { (k : ℕ) → k < slots_len closed.new.slots → slice_index_or (slots_filled closed.new.slots) k false ≡ false }
+    ensures taken { (k : ℕ) → k < slots_len closed.new.slots
+        → slice_index_or (slots_filled closed.new.slots) k false ≡ false }
 {
     let mut home = 0;
     for i in 0..closed.slot_count() {

@@ -13,5 +13,16 @@ impl Model for PoolName {
 
     ghost coded = { coded× table_id_coded coded_ℕ };
 
-    ghost view = { λ _. (record { words = 0; slots = 0; views_name = 0; atom = 0; block = 0; offset = 0; slot_names = [] }, 0) };
+    ghost view = { λ _. (
+      record {
+        words = 0;
+        slots = 0;
+        views_name = 0;
+        atom = 0;
+        block = 0;
+        offset = 0;
+        slot_names = [];
+      },
+      0,
+    ) };
 }

@@ -1,12 +1,15 @@
 //! What each step of a seat tells. These types are for the proofs alone.
-ghost use Rattle.host_frames.specs.Views.{view_after_making, new_seat_view, packed_view, emptied_view, unpacked_view, gathered_view, spent_view};
-ghost use Rattle.host_frames.specs.Steps.{BeginsClaim, LooksAtWord, WinsFrames, FetchesPage, LeavesSlot, TakesSlot, BringsHome, GivesUp};
+ghost use Rattle.host_frames.specs.Views.{view_after_making, new_seat_view, packed_view};
+ghost use Rattle.host_frames.specs.Views.{emptied_view, unpacked_view, gathered_view, spent_view};
+ghost use Rattle.host_frames.specs.Steps.{BeginsClaim, LooksAtWord, WinsFrames, FetchesPage};
+ghost use Rattle.host_frames.specs.Steps.{LeavesSlot, TakesSlot, BringsHome, GivesUp};
 ghost use Rattle.host_frames.specs.Homes.{IsBlankPage};
 
 use crate::view::View;
 use atomic_table::{Join, Play, Split};
 
-/// A claim begins. The step is an exchange that changes nothing, whose operand is the number of frames.
+/// A claim begins. The step is an exchange that changes nothing, whose operand is the number of
+/// frames.
 pub struct BeginClaim;
 
 impl Play<Option<Vec<u8>>, View> for BeginClaim {

@@ -2,9 +2,9 @@
 use Rattle.std.proofs.Common.{◌≡◌, ℕ, ◌+◌, ◌≤◌, ◌<◌, List, [], ◌∷◌, ◌++◌, length, take, drop, get_or, sym, ◌∙◌, ap, refl, arith}
 use Rattle.std.specs.List.{flat_map}
 use Rattle.std.proofs.lemmas.List.{append_assoc, take_more, take-append-drop, take-append-le, flat_map_more, get_or-drop, length-drop}
-use Rattle.host_block.specs.Disk.{DiskState, block_at, read_of, IsOfSize}
+use Rattle.host_block.specs.{DiskState, block_at, read_of, IsOfSize}
 use Rattle.host_block.proofs.DiskLemmas.{block_at-settled, length-settled, length-read_of}
-use Rattle.host_gpt.specs.Image.{current_image}
+use Rattle.host_gpt.specs.{current_image}
 
 abbrev pub joined : List (List ℕ) → List ℕ
 joined blocks = flat_map (λ b. b) blocks

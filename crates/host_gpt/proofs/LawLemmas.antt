@@ -1,9 +1,6 @@
 -- The answers to an image exclude one another.
 use Rattle.std.proofs.Common.{◌≡◌, ℕ, List, refl, sym, subst, ◌∙◌, inl, inr}
-use Rattle.host_gpt.specs.Laws.{LargeExcludes, OneTable, SameTable, TableExcludes}
-use Rattle.host_gpt.specs.Table.{IsChosen, IsReadAt, HasNone, place_of}
-use Rattle.host_gpt.specs.declared.which.Which.{Which}
-use Rattle.host_gpt.specs.declared.which.Which.TheVariants.{Primary, Backup}
+use Rattle.host_gpt.specs.{LargeExcludes, OneTable, SameTable, TableExcludes, IsChosen, IsReadAt, HasNone, table_place, Which, Primary, Backup}
 
 same_choice : (image : List (List ℕ)) (which which' : Which) → IsChosen image which → IsChosen image which' → which ≡ which'
 same_choice image Primary Primary c c' = refl
@@ -16,10 +13,10 @@ one_table image which which' id id' first first' last last' entries entries' t t
     let same : which ≡ which' = same_choice image which which' t.chosen t'.chosen in
     same_read which which' same t.read t'.read
   where
-    same_read : (w w' : Which) → w ≡ w' → IsReadAt image (place_of image w) id first last entries → IsReadAt image (place_of image w') id' first' last' entries'
+    same_read : (w w' : Which) → w ≡ w' → IsReadAt image (table_place image w) id first last entries → IsReadAt image (table_place image w') id' first' last' entries'
         → SameTable w w' id id' first first' last last' entries entries'
     same_read w w' e r r' =
-        let moved : IsReadAt image (place_of image w) id' first' last' entries' = subst (λ (x : Which). IsReadAt image (place_of image x) id' first' last' entries') (sym e) r' in
+        let moved : IsReadAt image (table_place image w) id' first' last' entries' = subst (λ (x : Which). IsReadAt image (table_place image x) id' first' last' entries') (sym e) r' in
         record {
           same_which = e;
           same_id = r.disk_id ∙ sym moved.disk_id;

@@ -3,8 +3,7 @@ use Rattle.std.proofs.Common.{◌≡◌, ℕ, zero, suc, ◌+◌, List, [], ◌�
 use Rattle.std.proofs.lemmas.Grind.{replicate_next}
 use Rattle.std.proofs.lemmas.List.{append-nil, append_assoc, flat_map_more}
 use Rattle.std.specs.List.{flat_map, range_with_len}
-use Rattle.host_gpt.specs.Sample.{byte_of, filled, usable_blocks}
-use Rattle.host_gpt.specs.declared.sample.Fill.{Fill}
+use Rattle.host_gpt.specs.{byte_of, filled, usable_blocks, Fill}
 
 pub filled_none : (xs : List ℕ) (byte : ℕ) → xs ≡ xs ++ filled 0 byte
 unfolding filled

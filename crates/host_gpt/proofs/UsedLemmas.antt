@@ -4,8 +4,7 @@ use Rattle.std.specs.Prelude.{All, map, not}
 use Rattle.std.specs.List.Sorted.{IsStrictlyIncreasing}
 use Rattle.std.proofs.lemmas.List.Elements.{All-nil, All-cons}
 use Rattle.host_gpt.proofs.EntryLemmas.{used_one, used_none}
-use Rattle.host_gpt.specs.Entries.{AreUsed, entries_from, is_used, is_zero, used}
-use Rattle.host_gpt.specs.declared.entry.Entry.{Entry}
+use Rattle.host_gpt.specs.{AreUsed, entries_from, is_used, is_zero, used, Entry}
 
 -- used entries with rising numbers, none below this one
 Rises : ℕ → List Entry → Type 0

@@ -1,6 +1,7 @@
 -- What the entry array says.
 use Prim.Native.Nat.{zero, suc}
-use Rattle.std.specs.Prelude.{ℕ, ◌+◌, ◌==◌, Bool, not, IsTrue, if◌then◌else◌, List, [], ◌∷◌, ◌++◌, take, drop, map, All}
+use Rattle.std.specs.Prelude.{ℕ, ◌+◌, ◌==◌, Bool, not, IsTrue, if◌then◌else◌, List, [], ◌∷◌, ◌++◌}
+use Rattle.std.specs.Prelude.{take, drop, map, All}
 use Rattle.std.specs.List.{list_all}
 use Rattle.std.specs.List.Sorted.{IsStrictlyIncreasing}
 use Rattle.host_gpt.specs.Header.{bytes_at, number_at}
@@ -20,8 +21,8 @@ abbrev pub is_used : List ℕ → Bool
 is_used e = not (is_zero (take 16 e))
 
 -- the entry of this number in these bytes
-abbrev pub entry_of : ℕ → List ℕ → Entry
-entry_of number e = record {
+abbrev pub entry_in_bytes : ℕ → List ℕ → Entry
+entry_in_bytes number e = record {
   number = number;
   type_id = bytes_at 0 16 e;
   id = bytes_at 16 16 e;
@@ -33,12 +34,13 @@ entry_of number e = record {
 
 -- the entry of this number as a list: none where it isn't used
 unfoldable pub used : ℕ → List ℕ → List Entry
-used number e = if is_used e then entry_of number e ∷ [] else []
+used number e = if is_used e then entry_in_bytes number e ∷ [] else []
 
 -- the used ones of n entries of this size, numbered from here on
 unfoldable pub entries_from : ℕ → ℕ → ℕ → List ℕ → List Entry
 entries_from number size zero array = []
-entries_from number size (suc n) array = used number (take size array) ++ entries_from (number + 1) size n (drop size array)
+entries_from number size (suc n) array =
+    used number (take size array) ++ entries_from (number + 1) size n (drop size array)
 
 -- used entries, each number above the one before
 pub record AreUsed (entries : List Entry) : Type 0 where

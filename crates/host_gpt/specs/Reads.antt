@@ -4,7 +4,8 @@ use Rattle.host_block.specs.Disk.{block_at}
 use Rattle.host_gpt.specs.Entries.{AreUsed}
 use Rattle.host_gpt.specs.Header.{Agrees, header_of}
 use Rattle.host_gpt.specs.declared.header.Header.{Header}
-use Rattle.host_gpt.specs.Table.{IsValid, IsTooLarge, IsReadAt, IsTable, TableIsAbsent, TableIsTooLarge}
+use Rattle.host_gpt.specs.Table.{IsValid, IsTooLarge, IsReadAt, IsTable, TableIsAbsent}
+use Rattle.host_gpt.specs.Table.{TableIsTooLarge}
 use Rattle.host_gpt.specs.declared.found.Found.{Found}
 use Rattle.host_gpt.specs.declared.found.Found.TheVariants.{Valid, Large, Neither}
 use Rattle.host_gpt.specs.declared.table.Table.{Table}
@@ -14,7 +15,8 @@ use Rattle.host_gpt.specs.declared.which.Which.{Which}
 
 -- this is the image's table
 abbrev pub IsTableOf : List (List ℕ) → Table → Type 0
-IsTableOf image table = IsTable image table.which table.disk_id table.first_usable table.last_usable table.entries.items
+IsTableOf image table =
+    IsTable image table.which table.disk_id table.first_usable table.last_usable table.entries.items
 
 -- What a reader answers of an image. A failure of the disk and want of memory say nothing of it.
 abbrev pub Tells : List (List ℕ) → Result Table TableError → Type 0
@@ -35,11 +37,12 @@ HeaderAt image p None = ¬ Agrees p (block_at image p)
 HeaderAt image p (Some header) = IsHeaderAt image p header
 
 -- what was found at the header in block p
-abbrev pub Finds : List (List ℕ) → ℕ → Which → Found → Type 0
-Finds image p which (Valid table) =
-    IsValid image p × (table.which ≡ which) × IsReadAt image p table.disk_id table.first_usable table.last_usable table.entries.items
-Finds image p which Large = IsTooLarge image p
-Finds image p which Neither = (¬ IsValid image p) × (¬ IsTooLarge image p)
+abbrev pub FindsTable : List (List ℕ) → ℕ → Which → Found → Type 0
+FindsTable image p which (Valid table) =
+    IsValid image p × (table.which ≡ which)
+    × IsReadAt image p table.disk_id table.first_usable table.last_usable table.entries.items
+FindsTable image p which Large = IsTooLarge image p
+FindsTable image p which Neither = (¬ IsValid image p) × (¬ IsTooLarge image p)
 
 -- the entries of the table that was found are used ones, by rising number
 abbrev pub HasUsed : Found → Type 0

@@ -6,8 +6,8 @@ ghost use Rattle.host_gpt.specs.Register.{byte_after, bytes_after};
 
 use crate::crc_table::TABLE;
 
-/// The CRC-32 that seals headers and entry arrays: polynomial 0xEDB88320, the lowest bit of each byte first, with the
-/// register complemented before and after.
+/// The CRC-32 that seals headers and entry arrays: polynomial 0xEDB88320, the lowest bit of each
+/// byte first, with the register complemented before and after.
 pub fn crc32(bytes: &[u8]) -> u32
     ensures { result ≡ crc_of bytes.now }
 {

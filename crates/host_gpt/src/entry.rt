@@ -1,6 +1,6 @@
 // A used entry of a table.
 ghost use Rattle.std.specs.Prelude.{◌≡◌, ◌≤◌, length};
-ghost use Rattle.host_gpt.specs.Entries.{entry_of, is_used, units};
+ghost use Rattle.host_gpt.specs.Entries.{entry_in_bytes, is_used, units};
 
 use crate::field::u64_at;
 use byteorder::{ByteOrder, LittleEndian};
@@ -25,7 +25,7 @@ impl Entry {
     /// The entry of this number in these bytes.
     pub fn parse(number: u32, bytes: &[u8]) -> Entry
         requires { 128 ≤ length bytes.now }
-        ensures { result ≡ entry_of number bytes.now }
+        ensures { result ≡ entry_in_bytes number bytes.now }
     {
         let mut type_id = [0; 16];
         type_id.copy_from_slice(&bytes[..16]);

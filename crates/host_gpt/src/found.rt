@@ -1,11 +1,12 @@
 // What is found at one header.
-ghost use Rattle.std.specs.Prelude.{◌≡◌, [], ◌*◌, ◌<◌, ◌≤◌, IsTrue, IsErrOf, IfOk, OnOk, IfSome, length, drop, take, vec_len};
+ghost use Rattle.std.specs.Prelude.{◌≡◌, [], ◌*◌, ◌<◌, ◌≤◌, IsTrue, IsErrOf, IfOk, OnOk, IfSome};
+ghost use Rattle.std.specs.Prelude.{length, drop, take, vec_len};
 ghost use Rattle.std.specs.List.{flat_map};
 ghost use Rattle.host_io.specs.Causes.{Rose};
 ghost use Rattle.host_io.specs.Disks.{OnlyReads};
 ghost use Rattle.host_gpt.specs.Header.{IsEntrySize, array_length};
 ghost use Rattle.host_gpt.specs.Image.{AreInside, current_image};
-ghost use Rattle.host_gpt.specs.Reads.{Finds, HasUsed, HeaderAt};
+ghost use Rattle.host_gpt.specs.Reads.{FindsTable, HasUsed, HeaderAt};
 ghost use Rattle.host_gpt.specs.Table.{array_of};
 
 use crate::array::used_entries;
@@ -42,9 +43,12 @@ pub fn find_at<D: Disk>(
     ensures shape { D.shape disk.new ≡ D.shape disk.old }
     ensures state { D.state disk.new ≡ D.state disk.old }
     ensures opening { D.opening disk.new ≡ D.opening disk.old }
-    ensures counts { OnlyReads (D.counts disk.old) (D.counts disk.new) (D.never_fails disk.old) (D.never_fails disk.new) }
-    ensures fault { IsErrOf result ReadError.Disk → Rose (D.counts disk.old).faults (D.counts disk.new).faults }
-    ensures found { IsTrue (D.shape disk.old).tells → IfOk result (Finds (current_image (D.state disk.old)) place which) }
+    ensures counts { OnlyReads (D.counts disk.old) (D.counts disk.new) (D.never_fails disk.old)
+        (D.never_fails disk.new) }
+    ensures fault { IsErrOf result ReadError.Disk
+        → Rose (D.counts disk.old).faults (D.counts disk.new).faults }
+    ensures found { IsTrue (D.shape disk.old).tells
+        → IfOk result (FindsTable (current_image (D.state disk.old)) place which) }
     ensures used { IfOk result HasUsed }
 {
     let mut block = vec![in alloc; 0u8; size.bytes() as usize]?;
@@ -87,10 +91,14 @@ fn read_header<D: Disk>(
     ensures shape { D.shape disk.new ≡ D.shape disk.old }
     ensures state { D.state disk.new ≡ D.state disk.old }
     ensures opening { D.opening disk.new ≡ D.opening disk.old }
-    ensures counts { OnlyReads (D.counts disk.old) (D.counts disk.new) (D.never_fails disk.old) (D.never_fails disk.new) }
-    ensures fault { IsErrOf result ReadError.Disk → Rose (D.counts disk.old).faults (D.counts disk.new).faults }
-    ensures header { IsTrue (D.shape disk.old).tells → IfOk result (HeaderAt (current_image (D.state disk.old)) place) }
-    ensures entries { IfOk result (λ found. IfSome found (λ header. IsEntrySize header.entry_size)) }
+    ensures counts { OnlyReads (D.counts disk.old) (D.counts disk.new) (D.never_fails disk.old)
+        (D.never_fails disk.new) }
+    ensures fault { IsErrOf result ReadError.Disk
+        → Rose (D.counts disk.old).faults (D.counts disk.new).faults }
+    ensures header { IsTrue (D.shape disk.old).tells
+        → IfOk result (HeaderAt (current_image (D.state disk.old)) place) }
+    ensures entries { IfOk result
+        (λ found. IfSome found (λ header. IsEntrySize header.entry_size)) }
 {
     disk.read_block(place, block)?;
     Ok(Header::parse(block, place))
@@ -113,10 +121,13 @@ fn read_array<D: Disk>(
     ensures shape { D.shape disk.new ≡ D.shape disk.old }
     ensures state { D.state disk.new ≡ D.state disk.old }
     ensures opening { D.opening disk.new ≡ D.opening disk.old }
-    ensures counts { OnlyReads (D.counts disk.old) (D.counts disk.new) (D.never_fails disk.old) (D.never_fails disk.new) }
-    ensures fault { IsErrOf result ReadError.Disk → Rose (D.counts disk.old).faults (D.counts disk.new).faults }
+    ensures counts { OnlyReads (D.counts disk.old) (D.counts disk.new) (D.never_fails disk.old)
+        (D.never_fails disk.new) }
+    ensures fault { IsErrOf result ReadError.Disk
+        → Rose (D.counts disk.old).faults (D.counts disk.new).faults }
     ensures len { IfOk result (λ all. length all.items ≡ array_length header.now) }
-    ensures bytes { IsTrue (D.shape disk.old).tells → IfOk result (λ all. all.items ≡ array_of (current_image (D.state disk.old)) header.now) }
+    ensures bytes { IsTrue (D.shape disk.old).tells
+        → IfOk result (λ all. all.items ≡ array_of (current_image (D.state disk.old)) header.now) }
 {
     let len = header.array_len() as usize;
     let mut array = Vec::with_capacity(alloc, len + block.len())?;
@@ -141,10 +152,14 @@ fn read_blocks<D: Disk>(
     ensures shape { D.shape disk.new ≡ D.shape disk.old }
     ensures state { D.state disk.new ≡ D.state disk.old }
     ensures opening { D.opening disk.new ≡ D.opening disk.old }
-    ensures counts { OnlyReads (D.counts disk.old) (D.counts disk.new) (D.never_fails disk.old) (D.never_fails disk.new) }
-    ensures fault { IsErrOf result ReadError.Disk → Rose (D.counts disk.old).faults (D.counts disk.new).faults }
+    ensures counts { OnlyReads (D.counts disk.old) (D.counts disk.new) (D.never_fails disk.old)
+        (D.never_fails disk.new) }
+    ensures fault { IsErrOf result ReadError.Disk
+        → Rose (D.counts disk.old).faults (D.counts disk.new).faults }
     ensures len { OnOk result (vec_len all.new ≡ count * (D.shape disk.old).size) }
-    ensures bytes { IsTrue (D.shape disk.old).tells → OnOk result (all.new.items ≡ flat_map (λ b. b) (take count (drop first (current_image (D.state disk.old))))) }
+    ensures bytes { IsTrue (D.shape disk.old).tells
+        → OnOk result (all.new.items
+        ≡ flat_map (λ b. b) (take count (drop first (current_image (D.state disk.old))))) }
 {
     for k in 0..count {
         disk.read_block(first + k, block)?;

@@ -2,7 +2,7 @@
 ghost use Rattle.std.specs.Prelude.{◌≡◌, ◌↔◌, ◌*◌, ◌<◌, ◌≤◌, ℕ, IsTrue, length, MatchOption};
 ghost use Rattle.host_gpt.specs.Header.{Agrees, IsEntrySize, IsLarge, array_length, header_of};
 ghost use Rattle.host_gpt.specs.Image.{AreInside};
-ghost use Rattle.host_gpt.specs.Table.{IsInside};
+ghost use Rattle.host_gpt.specs.Table.{IsArrayInside};
 
 use crate::crc::header_crc32;
 use crate::field::{u32_at, u64_at};
@@ -27,7 +27,8 @@ impl Header {
     /// The header in the block of this number, where it agrees.
     pub fn parse(block: &[u8], place: u64) -> Option<Header>
         requires { 92 ≤ length block.now }
-        ensures { MatchOption result (¬ Agrees place block.now) (λ header. Agrees place block.now × (header ≡ header_of block.now)) }
+        ensures { MatchOption result (¬ Agrees place block.now)
+            (λ header. Agrees place block.now × (header ≡ header_of block.now)) }
     {
         if agrees(block, place) {
             Some(Header::fields(block))
@@ -72,7 +73,8 @@ impl Header {
     pub fn array_blocks(&self, size: u32) -> u64
         requires { 0 < size }
         ensures reaches { array_length self.now ≤ result * size }
-        ensures inside { (blocks : ℕ) → AreInside blocks self.now.array_lba result ↔ IsInside blocks size self.now }
+        ensures inside { (blocks : ℕ) → AreInside blocks self.now.array_lba result
+            ↔ IsArrayInside blocks size self.now }
     {
         self.array_len().div_ceil(size as u64)
     }

@@ -1,5 +1,5 @@
-//! The partition table of an image (UEFI 2.10, chapter 5): its CRC-32, the reader of its primary and backup header, and
-//! sample images.
+//! The partition table of an image (UEFI 2.10, chapter 5): its CRC-32, the reader of its primary
+//! and backup header, and sample images.
 #![tactic(auto)]
 
 mod array;

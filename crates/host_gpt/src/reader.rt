@@ -13,8 +13,8 @@ use host_block::BlockSize;
 use host_io::Disk;
 use std::alloc::Global;
 
-/// Reads the partition table (UEFI 2.10, section 5.3) of the attached image, which has so many blocks of this size. A
-/// failure of the disk comes before every other error.
+/// Reads the partition table (UEFI 2.10, section 5.3) of the attached image, which has so many
+/// blocks of this size. A failure of the disk comes before every other error.
 pub fn read_table<D: Disk>(
     alloc: Global,
     disk: &mut D,
@@ -25,15 +25,18 @@ pub fn read_table<D: Disk>(
     requires size { size ≡ (D.shape disk.old).size }
 
     // The image's table, or why there is none, where the disk tells its content.
-    ensures table { IsTrue (D.shape disk.old).tells → Tells (current_image (D.state disk.old)) result }
+    ensures table { IsTrue (D.shape disk.old).tells
+        → Tells (current_image (D.state disk.old)) result }
     ensures entries { IfOk result (λ table. AreUsed table.entries.items) }
-    ensures fault { IsErrOf result TableError.Disk → Rose (D.counts disk.old).faults (D.counts disk.new).faults }
+    ensures fault { IsErrOf result TableError.Disk
+        → Rose (D.counts disk.old).faults (D.counts disk.new).faults }
 
     // The disk was only read.
     ensures shape { D.shape disk.new ≡ D.shape disk.old }
     ensures state { D.state disk.new ≡ D.state disk.old }
     ensures opening { D.opening disk.new ≡ D.opening disk.old }
-    ensures counts { OnlyReads (D.counts disk.old) (D.counts disk.new) (D.never_fails disk.old) (D.never_fails disk.new) }
+    ensures counts { OnlyReads (D.counts disk.old) (D.counts disk.new) (D.never_fails disk.old)
+        (D.never_fails disk.new) }
 {
     if blocks < 2 {
         return Err(TableError::NoTable);
@@ -56,13 +59,18 @@ fn read_backup<D: Disk>(
     requires blocks { blocks ≡ (D.shape disk.old).blocks }
     requires size { size ≡ (D.shape disk.old).size }
     requires two { 2 ≤ blocks }
-    ensures table { IsTrue (D.shape disk.old).tells → (¬ IsValid (current_image (D.state disk.old)) 1) → (IsTrue primary_is_large ↔ IsTooLarge (current_image (D.state disk.old)) 1) → Tells (current_image (D.state disk.old)) result }
+    ensures table { IsTrue (D.shape disk.old).tells
+        → (¬ IsValid (current_image (D.state disk.old)) 1)
+        → (IsTrue primary_is_large ↔ IsTooLarge (current_image (D.state disk.old)) 1)
+        → Tells (current_image (D.state disk.old)) result }
     ensures entries { IfOk result (λ table. AreUsed table.entries.items) }
-    ensures fault { IsErrOf result TableError.Disk → Rose (D.counts disk.old).faults (D.counts disk.new).faults }
+    ensures fault { IsErrOf result TableError.Disk
+        → Rose (D.counts disk.old).faults (D.counts disk.new).faults }
     ensures shape { D.shape disk.new ≡ D.shape disk.old }
     ensures state { D.state disk.new ≡ D.state disk.old }
     ensures opening { D.opening disk.new ≡ D.opening disk.old }
-    ensures counts { OnlyReads (D.counts disk.old) (D.counts disk.new) (D.never_fails disk.old) (D.never_fails disk.new) }
+    ensures counts { OnlyReads (D.counts disk.old) (D.counts disk.new) (D.never_fails disk.old)
+        (D.never_fails disk.new) }
 {
     match find_at(alloc, disk, blocks, size, Which::Backup, blocks - 1)? {
         Found::Valid(table) => Ok(table),

@@ -1,8 +1,10 @@
-//! Sample images, for tests and trials: blocks of 512 bytes, a table with 128 entries of 128 bytes at both ends, and
-//! usable blocks from block 34 on.
+//! Sample images, for tests and trials: blocks of 512 bytes, a table with 128 entries of 128 bytes
+//! at both ends, and usable blocks from block 34 on.
 ghost use Rattle.std.specs.Prelude.{◌≡◌, ◌^◌, ◌<◌, ◌≤◌, ◌++◌, length, IfOk, OnOk};
 ghost use Rattle.byteorder.specs.Endian.{little_bytes};
-ghost use Rattle.host_gpt.specs.Sample.{base_bytes, byte_of, filled, header_array, header_block, header_blocks, header_start, header_with, image_with, large_bytes, sample_entry, usable_blocks, wide};
+ghost use Rattle.host_gpt.specs.Sample.{base_bytes, byte_of, filled, header_array, header_block};
+ghost use Rattle.host_gpt.specs.Sample.{header_blocks, header_start, header_with, image_with};
+ghost use Rattle.host_gpt.specs.Sample.{large_bytes, sample_entry, usable_blocks, wide};
 
 use crate::crc::crc32;
 use host_block::{Bytes, Oom};
@@ -36,8 +38,8 @@ enum Fill {
     Number,
 }
 
-/// 128 blocks with the partitions `alpha`, blocks 34 to 63, and `beta`, blocks 64 to 94. Every byte of a usable block is
-/// the block's number.
+/// 128 blocks with the partitions `alpha`, blocks 34 to 63, and `beta`, blocks 64 to 94. Every byte
+/// of a usable block is the block's number.
 pub fn base_image(alloc: Global) -> Result<Bytes, Oom>
     ensures { IfOk result (λ image. image ≡ base_bytes) }
 {

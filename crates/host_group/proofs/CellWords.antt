@@ -3,9 +3,7 @@ use Rattle.std.proofs.Common.{◌≡◌, ◌≢◌, ℕ, zero, suc, ◌+◌, ◌
 use Rattle.std.specs.Prelude.{Bool, true, false}
 use mathlib.Core.Logic.{dite}
 use native.Mathlib.Decide.{ℕ_discrete}
-use Rattle.host_group.specs.declared.view.Member.{Member}
-use Rattle.host_group.specs.Rule.{cell}
-use Rattle.host_group.specs.Views.{where_in}
+use Rattle.host_group.specs.{Member, cell, where_in}
 
 pub set_len : (l : List ℕ) (i x : ℕ) → length (set l i x) ≡ length l
 set_len [] i x = refl

@@ -3,21 +3,13 @@ use Rattle.std.proofs.Common.{◌≡◌, ◌≢◌, ℕ, ◌≤◌, ◌<◌, Lis
 use mathlib.Core.Option.{some}
 use lib.ListN.{get_elem?}
 use Rattle.atomic_table.specs.Table.{Final, Seen}
-use Rattle.host_group.specs.declared.view.View.{View}
-use Rattle.host_group.specs.declared.view.Row.{Row}
-use Rattle.host_group.specs.declared.view.Member.{Member}
-use Rattle.host_group.specs.declared.view.Stage.{Stage}
-use Rattle.host_group.specs.declared.view.Stage.TheVariants.{Resting, Looked, Placed, Added, Right, Spent}
-use Rattle.host_group.specs.Ends.{instance_rows, AreThoseAdmitted, HaveRows, HasItsEnd}
+use Rattle.host_group.specs.{View, Row, Member, Stage, Resting, Looked, Placed, Added, Right, Spent, instance_rows, AreThoseAdmitted, HaveRows, HasItsEnd, whole, IsInstanceOver, OneEnd, nothing, both, row_tally, rows_tally, tally_at, tally, weight_at, weight, members_closing}
 use Rattle.host_group.proofs.Endings.{has_end, no_end}
-use Rattle.host_group.specs.PlainRows.{whole}
 use Rattle.host_group.proofs.Gathering.{gathered, have_rows, rising_rows}
-use Rattle.host_group.specs.Rule.{IsOver, OneEnd}
-use Rattle.host_group.specs.Tallies.{nothing, both, row_tally, rows_tally, tally_at, tally, weight_at, weight}
-use Rattle.host_group.specs.Views.{total, closings}
+use Rattle.host_log.specs.{total}
+use Rattle.host_log.proofs.Totals.{without, fold_unit, total_without}
 use Rattle.host_group.proofs.AdmitSteps.{AsSeen, as_seen}
 use Rattle.host_group.proofs.Counting.{one, total_one, rows_one}
-use Rattle.host_group.proofs.Folds.{without, fold_unit, total_without}
 use Rattle.host_group.proofs.RightSteps.{St, views_at, ordered}
 use Rattle.host_group.proofs.Tallies.{both_assoc, both_comm, both_nothing}
 
@@ -75,7 +67,7 @@ module _ (s : St) (v : View) (now : ℕ → ℕ) (l : AsSeen s v now) (is : v.st
   those φ = let a = l.counted φ in let b = total_without (weight φ) s.views 0 v l.here in let c : weight φ v ≡ total (λ (r : Row). φ r.member) v.back = ap (weight_at φ v) is in let d = no_weights φ (without s.views 0) alone in omega arith
 
   -- nothing is open
-  closed : (g : ℕ) → g < 8 → (closings g v.admitted ≡ now g) × ((rows_tally g (now g) v.back).ended ≡ 0)
+  closed : (g : ℕ) → g < 8 → (members_closing g v.admitted ≡ now g) × ((rows_tally g (now g) v.back).ended ≡ 0)
   closed g g8 = let c = (l.each g (now g) g8).current refl in let b = l.back g (now g) in let o = l.order g g8 in let single = c.single in let b0 = b.0 in let b1 = b.1 in
       let u : (tally g (now g) s.views).unsettled ≡ (rows_tally g (now g) v.back).unsettled = ap (λ z. z.unsettled) (all_back g (now g)) in
       let e : (tally g (now g) s.views).ending ≡ (rows_tally g (now g) v.back).ending = ap (λ z. z.ending) (all_back g (now g)) in
@@ -83,7 +75,7 @@ module _ (s : St) (v : View) (now : ℕ → ℕ) (l : AsSeen s v now) (is : v.st
       (omega arith, sym (ap (λ z. z.ended) (all_back g (now g))) ∙ c.ended)
 
   -- an instance that isn't closed has not ended
-  open_still : (g j : ℕ) → g < 8 → closings g v.admitted ≤ j → (rows_tally g j v.back).ended ≡ 0
+  open_still : (g j : ℕ) → g < 8 → members_closing g v.admitted ≤ j → (rows_tally g j v.back).ended ≡ 0
   open_still g j g8 le = let i = l.each g j g8 in let k = (closed g g8).0 in ⊎_elim (λ lt. absurd (omega arith)) (λ t. ⊎_elim
       (λ e. subst (λ (z : ℕ). (rows_tally g z v.back).ended ≡ 0) (sym e) (closed g g8).1)
       (λ lt. ap (λ z. z.ended) (sym (all_back g j) ∙ (i.later lt).0)) t) (ordered j (now g))
@@ -93,7 +85,7 @@ module _ (s : St) (v : View) (now : ℕ → ℕ) (l : AsSeen s v now) (is : v.st
   its_end g j g8 = let k = (closed g g8).0 in let bound = l.bound in
       let same : whole (instance_rows g j v.admitted v.back) ≡ rows_tally g j v.back = gathered g j v.admitted v.back 0 v.next l.rising those in (
         (λ lt. has_end (instance_rows g j v.admitted v.back) 0 (rising_rows g j v.admitted v.back 0 v.next l.rising (omega arith) (have_rows v.admitted v.back 0 v.next l.rising those))
-            (subst IsOver (all_back g j ∙ sym same) ((l.each g j g8).over (omega arith)))),
+            (subst IsInstanceOver (all_back g j ∙ sym same) ((l.each g j g8).over (omega arith)))),
         (λ le. no_end (instance_rows g j v.admitted v.back) (ap (λ t. t.ended) same ∙ open_still g j g8 le)),
       )
 

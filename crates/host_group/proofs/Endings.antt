@@ -2,19 +2,10 @@
 use Rattle.std.proofs.Common.{◌≡◌, ◌⊎◌, ℕ, ◌+◌, ◌*◌, ◌/◌, ◌%◌, ◌^◌, ◌≤◌, ◌<◌, List, [], ◌∷◌, length, map, sym, refl, ap, ap₂, ◌∙◌, inl, inr, ⊎_elim, arith, cond}
 use Rattle.std.specs.Prelude.{Bool, true, false, filter, find, max, unwrap_or, Option, Some, None}
 use Rattle.std.specs.List.{cons_option}
-use Rattle.host_model.specs.Answers.{is_failure, first_failure}
+use Rattle.host_model.specs.{is_failure, first_failure}
 use Rattle.host_record.specs.declared.status.Status.{Status}
-use Rattle.host_record.specs.declared.status.Status.TheVariants.{Ok, NotSupported, NoMemory, InvalidArgs, OutOfRange, TooSmall, NotFound, Io}
-use Rattle.host_group.specs.declared.view.Row.{Row}
-use Rattle.host_group.specs.declared.view.Progress.{Progress}
-use Rattle.host_group.specs.declared.view.Progress.TheVariants.{Unsettled, Last, TookError, TookDeviceFront, TookMemoryFront, TookClosing, Ended, Passed}
-use Rattle.host_group.specs.declared.group_end.GroupEnd.{GroupEnd}
-use Rattle.host_group.specs.Failures.{no_failure, failure_word, status_of}
-use Rattle.host_group.specs.Views.{bit, name_of}
-use Rattle.host_group.specs.Tallies.{Tally, tally_of, ending_of, ended_of, told_of, if_last}
-use Rattle.host_group.specs.Rule.{IsOver}
-use Rattle.host_group.specs.PlainRows.{whole}
-use Rattle.host_group.specs.Ends.{greatest, closers_of, IsEnd, end_in, end_at, ends_of, HasOneEnd}
+use Rattle.host_record.specs.{Ok, NotSupported, NoMemory, InvalidArgs, OutOfRange, TooSmall, NotFound, Io}
+use Rattle.host_group.specs.{Row, Progress, Unsettled, Last, TookError, TookDeviceFront, TookMemoryFront, TookClosing, Ended, Passed, GroupEnd, no_failure, failure_word, status_of, bit, name_of, Tally, tally_of, ending_of, ended_of, told_number, if_last, IsInstanceOver, whole, greatest, closers_of, IsEnd, end_in_row, end_at, ends_of, HasOneEnd}
 use Rattle.host_group.proofs.Tallies.{Sound, sound_nothing, sound_both, sound_tally}
 use Rattle.host_group.proofs.FailureLemmas.{status_of_word}
 
@@ -113,7 +104,7 @@ no_end (r ∷ rs) z = ap₂ (λ (e : Option GroupEnd) es. cons_option e es) (non
 abbrev end_from : Tally → GroupEnd
 end_from t = record { status = status_of t.end_error; count = t.end_count; reqid = t.end_closing / 2 ^ 32; index = t.end_closing % 2 ^ 32; device_front = t.end_device_front; memory_front = t.end_memory_front }
 
-same_end : (t : Tally) (r : Row) → t.end_error ≡ r.end_error → t.end_count ≡ r.found / 256 → t.end_closing ≡ r.end_closing → t.end_device_front ≡ r.end_device_front → t.end_memory_front ≡ r.end_memory_front → end_in r ≡ end_from t
+same_end : (t : Tally) (r : Row) → t.end_error ≡ r.end_error → t.end_count ≡ r.found / 256 → t.end_closing ≡ r.end_closing → t.end_device_front ≡ r.end_device_front → t.end_memory_front ≡ r.end_memory_front → end_in_row r ≡ end_from t
 same_end t r a b c d e = λ i. record { status = status_of (sym a i); count = sym b i; reqid = sym c i / 2 ^ 32; index = sym c i % 2 ^ 32; device_front = sym d i; memory_front = sym e i }
 
 later_end : (t u : Tally) → t.end_error ≡ u.end_error → t.end_count ≡ u.end_count → t.end_closing ≡ u.end_closing → t.end_device_front ≡ u.end_device_front → t.end_memory_front ≡ u.end_memory_front → end_from u ≡ end_from t
@@ -123,8 +114,8 @@ pub one_end : (rows : List Row) → (whole rows).ending ≡ 0 → (whole rows).e
 one_end [] quiet one = absurd (omega arith)
 one_end (r ∷ rs) quiet one = by r.progress refl (one_end rs)
   where
-    pass : (p : Progress) → r.progress ≡ p → ended_of p ≡ 0 → ((n : ℕ) → told_of p n ≡ 0) → end_at p r ≡ None → ((whole rs).ending ≡ 0 → (whole rs).ended ≡ 1 → ends_of rs ≡ end_from (whole rs) ∷ []) → ends_of (r ∷ rs) ≡ end_from (whole (r ∷ rs)) ∷ []
-    pass p e z told none more = let none' : ended_of r.progress ≡ 0 = ap ended_of e ∙ z in let un : (n : ℕ) → told_of r.progress n ≡ 0 = λ n. ap (λ q. told_of q n) e ∙ told n in
+    pass : (p : Progress) → r.progress ≡ p → ended_of p ≡ 0 → ((n : ℕ) → told_number p n ≡ 0) → end_at p r ≡ None → ((whole rs).ending ≡ 0 → (whole rs).ended ≡ 1 → ends_of rs ≡ end_from (whole rs) ∷ []) → ends_of (r ∷ rs) ≡ end_from (whole (r ∷ rs)) ∷ []
+    pass p e z told none more = let none' : ended_of r.progress ≡ 0 = ap ended_of e ∙ z in let un : (n : ℕ) → told_number r.progress n ≡ 0 = λ n. ap (λ q. told_number q n) e ∙ told n in
         let a = un r.end_error in let b = un (r.found / 256) in let c = un r.end_closing in let d = un r.end_device_front in let f = un r.end_memory_front in
         ap₂ (λ (x : Option GroupEnd) es. cons_option x es) (ap (λ q. end_at q r) e ∙ none) (more (omega arith) (omega arith)) ∙ ap (λ x. x ∷ []) (later_end (whole (r ∷ rs)) (whole rs) (omega arith) (omega arith) (omega arith) (omega arith) (omega arith))
 
@@ -138,7 +129,7 @@ one_end (r ∷ rs) quiet one = by r.progress refl (one_end rs)
     by TookDeviceFront e more = busy TookDeviceFront e refl
     by TookMemoryFront e more = busy TookMemoryFront e refl
     by TookClosing e more = busy TookClosing e refl
-    by Ended e more = let told : (n : ℕ) → told_of r.progress n ≡ n = λ n. ap (λ q. told_of q n) e in let z' : ended_of r.progress ≡ 1 = ap ended_of e in let none : (whole rs).ended ≡ 0 = omega arith in
+    by Ended e more = let told : (n : ℕ) → told_number r.progress n ≡ n = λ n. ap (λ q. told_number q n) e in let z' : ended_of r.progress ≡ 1 = ap ended_of e in let none : (whole rs).ended ≡ 0 = omega arith in
         let still = (sound_whole rs).quiet (omega arith) none in let s0 = still.0 in let s1 = still.1 in let s2 = still.2 in let s3 = still.3 in let s4 = still.4 in
         let a = told r.end_error in let b = told (r.found / 256) in let c = told r.end_closing in let d = told r.end_device_front in let f = told r.end_memory_front in
         ap₂ (λ (x : Option GroupEnd) es. cons_option x es) (ap (λ q. end_at q r) e) (no_end rs none) ∙ ap (λ x. x ∷ []) (same_end (whole (r ∷ rs)) r (omega arith) (omega arith) (omega arith) (omega arith) (omega arith))
@@ -156,6 +147,6 @@ is_end rows from rise one e status count closing low device memory = let index :
 }
 
 -- an instance that is over has its end
-pub has_end : (rows : List Row) (from : ℕ) → AreRising rows from → IsOver (whole rows) → HasOneEnd rows
+pub has_end : (rows : List Row) (from : ℕ) → AreRising rows from → IsInstanceOver (whole rows) → HasOneEnd rows
 has_end rows from rise over = let t : Tally = whole rows in let closing = over.closing in
     (end_from t, one_end rows over.ending over.ended, is_end rows from rise over.closers (end_from t) (ap status_of over.error) over.count (omega arith) (omega arith) over.device_front over.memory_front)

@@ -1,8 +1,8 @@
 -- What a failure's word tells.
 use Rattle.std.proofs.Common.{◌≡◌, ℕ, ◌+◌, ◌*◌, ◌%◌, ◌<◌, refl, ap, ◌∙◌, arith, cond, ne_eqb}
 use Rattle.host_record.specs.declared.status.Status.{Status}
-use Rattle.host_record.specs.declared.status.Status.TheVariants.{Ok, NotSupported, NoMemory, InvalidArgs, OutOfRange, TooSmall, NotFound, Io}
-use Rattle.host_group.specs.Failures.{no_failure, failure_word, status_of, status_of_bits}
+use Rattle.host_record.specs.{Ok, NotSupported, NoMemory, InvalidArgs, OutOfRange, TooSmall, NotFound, Io}
+use Rattle.host_group.specs.{no_failure, failure_word, status_of, status_of_bits}
 
 -- the word of a failed status tells its index and its status
 word_status : (i c : ℕ) → 0 < c → c < 8 → 8 * i + 7 < no_failure → status_of (8 * i + c) ≡ status_of_bits c

@@ -5,16 +5,12 @@ use mathlib.Core.Option.{some, some-injective, some-ne-none}
 use mathlib.Core.Logic.{dite}
 use native.Mathlib.Decide.{ℕ_discrete}
 use lib.ListN.{get_elem?}
-use Rattle.host_group.specs.declared.view.Row.{Row}
-use Rattle.host_group.specs.declared.view.Member.{Member}
-use Rattle.host_group.specs.Views.{total, bit, where_in, IsRising, fresh_row}
-use Rattle.host_group.specs.Tallies.{nothing, both, tally_of, row_tally, rows_tally}
-use Rattle.host_group.specs.Ends.{members_of, row_of, instance_rows, AreThoseAdmitted, HaveRows}
-use Rattle.host_group.proofs.Folds.{without, fold_at, fold_unit, total_without}
+use Rattle.host_group.specs.{Row, Member, bit, where_in, IsRising, fresh_row, nothing, both, tally_of, row_tally, rows_tally, members_of, row_of, instance_rows, AreThoseAdmitted, HaveRows, whole}
+use Rattle.host_log.specs.{total}
+use Rattle.host_log.proofs.Totals.{without, fold_at, fold_unit, total_without}
 use Rattle.host_group.proofs.Tallies.{both_assoc, both_comm, both_nothing}
 use Rattle.host_group.proofs.CellWords.{at_own, at_number, at_instance}
 use Rattle.host_group.proofs.Counting.{one, rising_length}
-use Rattle.host_group.specs.PlainRows.{whole}
 use Rattle.host_group.proofs.Endings.{AreRising}
 
 -- ---- which member a row is of

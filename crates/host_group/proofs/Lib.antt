@@ -1,4 +1,3 @@
-pub mod Folds
 pub mod Tallies
 pub mod CellWords
 pub mod InstanceSteps

@@ -4,16 +4,8 @@ use Rattle.std.specs.Prelude.{true, false, min}
 use mathlib.Core.Option.{some, some-injective}
 use lib.ListN.{get_elem?}
 use Rattle.host_record.specs.declared.status.Status.{Status}
-use Rattle.host_group.specs.declared.plain_cells.PlainCell.{PlainCell}
-use Rattle.host_group.specs.declared.plain_cells.PlainCells.{PlainCells}
-use Rattle.host_group.specs.declared.view.Member.{Member}
-use Rattle.host_group.specs.declared.view.Row.{Row}
-use Rattle.host_group.specs.Failures.{no_failure, failure_word, status_of}
-use Rattle.host_group.specs.Views.{bit, name_of, fresh_row, IsRising}
-use Rattle.host_group.specs.Tallies.{Tally, nothing, both, if_last, tally_of}
-use Rattle.host_group.specs.Ends.{IsEnd}
-use Rattle.host_group.specs.PlainRows.{empty_cell, plain_cell, added_cell, settled_cell, cell_end, whole, HasCome, HasRows, IsWaiting, settled_row, IsGoingOn}
-use Rattle.host_group.proofs.Folds.{without, fold_at, fold_set, fold_snoc, fold_unit}
+use Rattle.host_group.specs.{PlainCell, PlainCells, Member, Row, no_failure, failure_word, status_of, bit, name_of, fresh_row, IsRising, Tally, nothing, both, if_last, tally_of, IsEnd, empty_cell, plain_cell, added_cell, settled_cell, cell_end, whole, HasCome, HasRows, IsRowWaiting, settled_row, IsGoingOn}
+use Rattle.host_log.proofs.Totals.{without, fold_at, fold_set, fold_snoc, fold_unit}
 use Rattle.host_group.proofs.Tallies.{both_assoc, both_comm, both_nothing, Sound}
 use Rattle.host_group.proofs.Counting.{rising_length, rising_snoc}
 use Rattle.host_group.proofs.Endings.{sound_whole, AreRising, no_closer, is_end}
@@ -115,7 +107,7 @@ rows_added g p p' rows m new above next low clear has = record {
       (subst (HasCome (added_cell (plain_cell g p) m.index m.reqid m.last)) (sym (fold_snoc both nothing both_assoc both_comm tally_of rows (fresh_row m))) (comes_added (whole rows) (plain_cell g p) m (omega arith) (sound_whole rows) (unit_whole rows) has.come clear));
 }
 
-module _ (g : ℕ) (p : PlainCells) (rows : List Row) (i : ℕ) (r : Row) (index : ℕ) (status : Status) (device memory : ℕ) (has : HasRows g p rows) (is : IsWaiting rows i index r) where
+module _ (g : ℕ) (p : PlainCells) (rows : List Row) (i : ℕ) (r : Row) (index : ℕ) (status : Status) (device memory : ℕ) (has : HasRows g p rows) (is : IsRowWaiting rows i index r) where
   abbrev pub cell : PlainCell
   cell = settled_cell (plain_cell g p) (failure_word index status) device memory
 

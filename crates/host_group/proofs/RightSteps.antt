@@ -7,23 +7,13 @@ use native.Mathlib.Decide.{ℕ_discrete}
 use lib.ListN.{get_elem?}
 use Rattle.atomic_table.specs.Table.{State, Me, step, keeps, Allows}
 use Rattle.atomic_table.proofs.Lists.{set_else}
-use Rattle.host_group.specs.declared.view.View.{View}
-use Rattle.host_group.specs.declared.view.Row.{Row}
-use Rattle.host_group.specs.declared.view.Member.{Member}
-use Rattle.host_group.specs.declared.view.Stage.{Stage}
-use Rattle.host_group.specs.declared.view.Stage.TheVariants.{Resting, Looked, Placed, Added, Right, Spent}
-use Rattle.host_group.specs.declared.view.Progress.{Progress}
+use Rattle.host_group.specs.{View, Row, Member, Stage, Resting, Looked, Placed, Added, Right, Spent, Progress, Unsettled, Last, TookError, TookDeviceFront, TookMemoryFront, TookClosing, Ended, Passed, no_failure, failure_word, status_of, Cell, cell, IsCellCurrent, IsInstanceOver, IsInstance, is_admitting, claim, OneEnd, PutsError, PutsDeviceFront, PutsMemoryFront, Settles, TakesError, TakesDeviceFront, TakesMemoryFront, TakesClosing, Frees, Tally, nothing, both, unsettled_of, ending_of, tally_of, row_tally, rows_tally, tally_at, view_tally, tally, weight_at, weight, bit, where_in, members_closing, name_of, with_row}
 use Rattle.host_record.specs.declared.status.Status.{Status}
-use Rattle.host_record.specs.declared.status.Status.TheVariants.{Ok}
-use Rattle.host_group.specs.declared.view.Progress.TheVariants.{Unsettled, Last, TookError, TookDeviceFront, TookMemoryFront, TookClosing, Ended, Passed}
+use Rattle.host_record.specs.{Ok}
 use Rattle.host_group.proofs.InstanceSteps as local
-use Rattle.host_group.specs.Failures.{no_failure, failure_word, status_of}
-use Rattle.host_group.specs.Rule.{Cell, cell, IsCurrent, IsOver, IsInstance, is_admitting, claim, OneEnd}
-use Rattle.host_group.specs.Steps.{PutsError, PutsDeviceFront, PutsMemoryFront, Settles, TakesError, TakesDeviceFront, TakesMemoryFront, TakesClosing, Frees}
-use Rattle.host_group.specs.Tallies.{Tally, nothing, both, unsettled_of, ending_of, tally_of, row_tally, rows_tally, tally_at, view_tally, tally, weight_at, weight}
-use Rattle.host_group.specs.Views.{total, bit, where_in, closings, name_of, with_row}
+use Rattle.host_log.specs.{total}
+use Rattle.host_log.proofs.Totals.{without, total_set, fold_at, fold_set, fold_same, fold_unit, fold_all}
 use Rattle.host_group.proofs.CellWords.{set_len, cell_else, cell_left, cell_error, cell_device_front, cell_memory_front, cell_closing, at_own, at_all, at_same}
-use Rattle.host_group.proofs.Folds.{without, fold_at, fold_set, fold_same, fold_unit, fold_all, total_set}
 use Rattle.host_group.proofs.InstanceSteps.{being}
 use Rattle.host_group.proofs.Tallies.{both_assoc, both_comm, both_nothing, Sound, sound_nothing, sound_both, sound_tally}
 
@@ -128,7 +118,7 @@ module _ (s : St) (r : OneEnd s) (id : ℕ) (v : View) (at : get_elem? s.views i
   -- what stays where a row changes within its instance
   pub moved : num < 8 → 0 < (tally_of v.row).unsettled + (tally_of v.row).ending → (x : Row) → x.member ≡ v.row.member → (words' : List ℕ) → length words' ≡ 40 → ((g : ℕ) → g ≢ num → cell words' g ≡ cell s.words g)
       → (c' : Cell) → cell words' num ≡ c'
-      → ((R : Tally) → Sound R → both nothing R ≡ R → IsCurrent (cell s.words num) q name (both (tally_of v.row) R) → IsCurrent c' q name (both (tally_of x) R))
+      → ((R : Tally) → Sound R → both nothing R ≡ R → IsCellCurrent (cell s.words num) q name (both (tally_of v.row) R) → IsCellCurrent c' q name (both (tally_of x) R))
       → OneEnd record { words = words'; homes = s.homes; views = set s.views id (with_row v x) }
   moved lt alive x same words' len else c' mine step = let now = is_now lt alive in record {
     admitting = r.admitting;
@@ -140,13 +130,13 @@ module _ (s : St) (r : OneEnd s) (id : ℕ) (v : View) (at : get_elem? s.views i
         (λ e. dite (ℕ_discrete inst j)
         (λ f. let P : ℕ × ℕ → Type 0 = λ z. IsInstance (cell words' z.0) (r.now z.0) z.1 (claim z.0 z.1 r.admitting) name (tally z.0 z.1 (set s.views id (with_row v x))) in
         let cur = (r.each num inst lt).current now in
-        let cur' = subst (λ z. IsCurrent (cell s.words num) q name z) tally_own cur in
+        let cur' = subst (λ z. IsCellCurrent (cell s.words num) q name z) tally_own cur in
         let new = step (others num inst) (sound_views num inst (without s.views id)) (unit_views num inst (without s.views id)) cur' in
-        let mine' : IsCurrent (cell words' num) q name (tally num inst (set s.views id (with_row v x))) = subst (λ (z : Cell × Tally). IsCurrent z.0 q name z.1) (λ i. (sym mine i, sym (tally_new x same) i)) new in
+        let mine' : IsCellCurrent (cell words' num) q name (tally num inst (set s.views id (with_row v x))) = subst (λ (z : Cell × Tally). IsCellCurrent z.0 q name z.1) (λ i. (sym mine i, sym (tally_new x same) i)) new in
         subst P (λ i. (e i, f i)) record { over = λ a. absurd (omega arith); current = λ _. mine'; later = λ a. absurd (omega arith) })
         (λ ne. let t = tally_else x same g j (λ _ b. ne b) in
         record {
-          over = λ a. subst IsOver (sym t) (old.over a);
+          over = λ a. subst IsInstanceOver (sym t) (old.over a);
           current = λ a. absurd (ne (now ∙ (ap r.now e ∙ sym a)));
           later = λ a. let o = old.later a in (t ∙ o.0, o.1);
         }))
@@ -168,11 +158,11 @@ module _ (s : St) (r : OneEnd s) (id : ℕ) (v : View) (at : get_elem? s.views i
   frees lt p = let x : Row = record v.row { progress = Ended } in let ws : List ℕ = set s.words (5 * num) 0 in let vs : List View = set s.views id (with_row v x) in
       let len = r.size in
       let now = is_now lt (subst (λ (z : Progress). 0 < unsettled_of z + ending_of z) (sym p) (omega arith)) in
-      let cur = subst (λ z. IsCurrent (cell s.words num) q name z) tally_own ((r.each num inst lt).current now) in
-      let cur' = subst (λ (z : Row). IsCurrent (cell s.words num) q name (both (tally_of z) (others num inst))) (λ i. record v.row { progress = p i }) cur in
+      let cur = subst (λ z. IsCellCurrent (cell s.words num) q name z) tally_own ((r.each num inst lt).current now) in
+      let cur' = subst (λ (z : Row). IsCellCurrent (cell s.words num) q name (both (tally_of z) (others num inst))) (λ i. record v.row { progress = p i }) cur in
       let sound = sound_views num inst (without s.views id) in let unit = unit_views num inst (without s.views id) in
       let done = local.over (cell s.words num) q name v.row (others num inst) sound unit cur' in
-      let done' : IsOver (tally num inst vs) = subst IsOver (sym (tally_new x refl)) done in
+      let done' : IsInstanceOver (tally num inst vs) = subst IsInstanceOver (sym (tally_new x refl)) done in
       let marked : (tally num (r.now num) s.views).closers ≡ 1 = subst (λ (z : ℕ). (tally num z s.views).closers ≡ 1) now
       (ap (λ z. z.closers) tally_own ∙ (local.ends (cell s.words num) q name v.row (others num inst) sound unit TookClosing refl refl cur').10) in
       let now' : ℕ → ℕ = λ g. cond (eqb num g) (r.now num + 1) (r.now g) in
@@ -190,20 +180,20 @@ module _ (s : St) (r : OneEnd s) (id : ℕ) (v : View) (at : get_elem? s.views i
             subst P e (subst (λ (z : ℕ). IsInstance (cell ws num) z j (claim num j r.admitting) name (tally num j vs)) (sym own) (dite (ℕ_discrete inst j)
             (λ f. subst (λ (z : ℕ). IsInstance (cell ws num) (r.now num + 1) z (claim num z r.admitting) name (tally num z vs)) f record { over = λ _. done'; current = λ a. absurd (omega arith); later = λ a. absurd (omega arith) })
             (λ ne. let t = tally_else x refl num j (λ _ b. ne b) in let old = r.each num j lt in record {
-              over = λ a. subst IsOver (sym t) (old.over (omega arith));
+              over = λ a. subst IsInstanceOver (sym t) (old.over (omega arith));
               current = λ a. let fresh_row = local.free (cell s.words num) q name v.row (others num inst) sound unit cur' name in
                   let to : (claim num j r.admitting ≡ 0) × (tally num j vs ≡ nothing) = subst (λ (z : ℕ). (claim num z r.admitting ≡ 0) × (tally num z vs ≡ nothing)) (sym a) (empty.1, empty.0) in
-                  subst (λ (z : Cell × ℕ × Tally). IsCurrent z.0 z.1 name z.2) (λ i. (sym cellx i, sym to.0 i, sym to.1 i)) fresh_row;
+                  subst (λ (z : Cell × ℕ × Tally). IsCellCurrent z.0 z.1 name z.2) (λ i. (sym cellx i, sym to.0 i, sym to.1 i)) fresh_row;
               later = λ a. let o = old.later (omega arith) in (t ∙ o.0, o.1);
             }))))
             (λ ne. subst (λ (z : ℕ). IsInstance (cell ws g) z j (claim g j r.admitting) name (tally g j vs)) (sym (same g ne))
             (instance_as (cell s.words g) (cell ws g) (r.now g) j (claim g j r.admitting) name (tally g j s.views) (tally g j vs) (cell_else s.words num 0 (5 * num) g (omega arith) (omega arith) (λ e. ne (sym e))) (tally_else x refl g j (λ a _. ne a)) (r.each g j g8)));
         counted = λ φ. r.counted φ ∙ sym (weight_same x refl φ);
         order = λ g g8. dite (ℕ_discrete num g)
-            (λ e. subst (λ (z : ℕ). closings z r.admitting.admitted ≡ now' z + (tally z (now' z) vs).closers) e
-            (subst (λ (z : ℕ). closings num r.admitting.admitted ≡ z + (tally num z vs).closers) (sym own)
+            (λ e. subst (λ (z : ℕ). members_closing z r.admitting.admitted ≡ now' z + (tally z (now' z) vs).closers) e
+            (subst (λ (z : ℕ). members_closing num r.admitting.admitted ≡ z + (tally num z vs).closers) (sym own)
             (let o = r.order num lt in let z : (tally num (r.now num + 1) vs).closers ≡ 0 = ap (λ t. t.closers) empty.0 in omega arith)))
-            (λ ne. subst (λ (z : ℕ). closings g r.admitting.admitted ≡ z + (tally g z vs).closers) (sym (same g ne))
+            (λ ne. subst (λ (z : ℕ). members_closing g r.admitting.admitted ≡ z + (tally g z vs).closers) (sym (same g ne))
             (r.order g g8 ∙ ap (λ z. r.now g + z) (ap (λ z. z.closers) (sym (tally_else x refl g (r.now g) (λ a _. ne a))))));
         back = r.back;
         rising = r.rising;
@@ -227,9 +217,9 @@ module _ (n id : ℕ) (me : M) (g : ℕ) (g8 : g < 8) (is : me.0.stage ≡ Right
         tt,
         moved s r id v at is lt (alive Unsettled p (omega arith)) y refl (set s.words (5 * h + 1) new) (set_len s.words (5 * h + 1) new ∙ r.size)
             (λ i ne. cell_else s.words h new (5 * h + 1) i (omega arith) (omega arith) ne) (record (cell s.words h) { error = new }) (cell_error s.words h new (omega arith))
-            (λ R sound unit c. subst (λ (z : Progress). IsCurrent record (cell s.words h) { error = new } (claim h v.row.member.instance r.admitting) (name_of r.admitting.row.member) (both (tally_of record y { progress = z }) R)) (sym p)
+            (λ R sound unit c. subst (λ (z : Progress). IsCellCurrent record (cell s.words h) { error = new } (claim h v.row.member.instance r.admitting) (name_of r.admitting.row.member) (both (tally_of record y { progress = z }) R)) (sym p)
             (local.put_error (cell s.words h) (claim h v.row.member.instance r.admitting) (name_of r.admitting.row.member) v.row R sound unit x (status_of x) (word ∙ ap (failure_word v.row.member.index) (sym told)) e
-            (subst (λ (z : Progress). IsCurrent (cell s.words h) (claim h v.row.member.instance r.admitting) (name_of r.admitting.row.member) (both (tally_of (being z v.row)) R)) p c))),
+            (subst (λ (z : Progress). IsCellCurrent (cell s.words h) (claim h v.row.member.instance r.admitting) (name_of r.admitting.row.member) (both (tally_of (being z v.row)) R)) p c))),
         refl,
       )) g8
 
@@ -241,9 +231,9 @@ module _ (n id : ℕ) (me : M) (g : ℕ) (g8 : g < 8) (is : me.0.stage ≡ Right
         tt,
         moved s r id v at is lt (alive Unsettled p (omega arith)) y refl (set s.words (5 * h + 2) new) (set_len s.words (5 * h + 2) new ∙ r.size)
             (λ i ne. cell_else s.words h new (5 * h + 2) i (omega arith) (omega arith) ne) (record (cell s.words h) { device_front = new }) (cell_device_front s.words h new (omega arith))
-            (λ R sound unit c. subst (λ (z : Progress). IsCurrent record (cell s.words h) { device_front = new } (claim h v.row.member.instance r.admitting) (name_of r.admitting.row.member) (both (tally_of record y { progress = z }) R)) (sym p)
+            (λ R sound unit c. subst (λ (z : Progress). IsCellCurrent record (cell s.words h) { device_front = new } (claim h v.row.member.instance r.admitting) (name_of r.admitting.row.member) (both (tally_of record y { progress = z }) R)) (sym p)
             (local.put_device_front (cell s.words h) (claim h v.row.member.instance r.admitting) (name_of r.admitting.row.member) v.row R sound unit x e
-            (subst (λ (z : Progress). IsCurrent (cell s.words h) (claim h v.row.member.instance r.admitting) (name_of r.admitting.row.member) (both (tally_of (being z v.row)) R)) p c))),
+            (subst (λ (z : Progress). IsCellCurrent (cell s.words h) (claim h v.row.member.instance r.admitting) (name_of r.admitting.row.member) (both (tally_of (being z v.row)) R)) p c))),
         refl,
       )) g8
 
@@ -255,9 +245,9 @@ module _ (n id : ℕ) (me : M) (g : ℕ) (g8 : g < 8) (is : me.0.stage ≡ Right
         tt,
         moved s r id v at is lt (alive Unsettled p (omega arith)) y refl (set s.words (5 * h + 3) new) (set_len s.words (5 * h + 3) new ∙ r.size)
             (λ i ne. cell_else s.words h new (5 * h + 3) i (omega arith) (omega arith) ne) (record (cell s.words h) { memory_front = new }) (cell_memory_front s.words h new (omega arith))
-            (λ R sound unit c. subst (λ (z : Progress). IsCurrent record (cell s.words h) { memory_front = new } (claim h v.row.member.instance r.admitting) (name_of r.admitting.row.member) (both (tally_of record y { progress = z }) R)) (sym p)
+            (λ R sound unit c. subst (λ (z : Progress). IsCellCurrent record (cell s.words h) { memory_front = new } (claim h v.row.member.instance r.admitting) (name_of r.admitting.row.member) (both (tally_of record y { progress = z }) R)) (sym p)
             (local.put_memory_front (cell s.words h) (claim h v.row.member.instance r.admitting) (name_of r.admitting.row.member) v.row R sound unit x e
-            (subst (λ (z : Progress). IsCurrent (cell s.words h) (claim h v.row.member.instance r.admitting) (name_of r.admitting.row.member) (both (tally_of (being z v.row)) R)) p c))),
+            (subst (λ (z : Progress). IsCellCurrent (cell s.words h) (claim h v.row.member.instance r.admitting) (name_of r.admitting.row.member) (both (tally_of (being z v.row)) R)) p c))),
         refl,
       )) g8
 
@@ -270,7 +260,7 @@ module _ (n id : ℕ) (me : M) (g : ℕ) (g8 : g < 8) (is : me.0.stage ≡ Right
         moved s r id v at is lt (alive Last p (omega arith)) y refl (set s.words (5 * h + 1) no_failure) (set_len s.words (5 * h + 1) no_failure ∙ r.size)
             (λ i ne. cell_else s.words h no_failure (5 * h + 1) i (omega arith) (omega arith) ne) (record (cell s.words h) { error = no_failure }) (cell_error s.words h no_failure (omega arith))
             (λ R sound unit c. local.take_error (cell s.words h) (claim h v.row.member.instance r.admitting) (name_of r.admitting.row.member) v.row R sound unit found refl
-            (subst (λ (z : Progress). IsCurrent (cell s.words h) (claim h v.row.member.instance r.admitting) (name_of r.admitting.row.member) (both (tally_of (being z v.row)) R)) p c)),
+            (subst (λ (z : Progress). IsCellCurrent (cell s.words h) (claim h v.row.member.instance r.admitting) (name_of r.admitting.row.member) (both (tally_of (being z v.row)) R)) p c)),
         refl,
       )) g8
 
@@ -283,7 +273,7 @@ module _ (n id : ℕ) (me : M) (g : ℕ) (g8 : g < 8) (is : me.0.stage ≡ Right
         moved s r id v at is lt (alive TookError p (omega arith)) y refl (set s.words (5 * h + 2) 0) (set_len s.words (5 * h + 2) 0 ∙ r.size)
             (λ i ne. cell_else s.words h 0 (5 * h + 2) i (omega arith) (omega arith) ne) (record (cell s.words h) { device_front = 0 }) (cell_device_front s.words h 0 (omega arith))
             (λ R sound unit c. local.take_device_front (cell s.words h) (claim h v.row.member.instance r.admitting) (name_of r.admitting.row.member) v.row R sound unit found refl
-            (subst (λ (z : Progress). IsCurrent (cell s.words h) (claim h v.row.member.instance r.admitting) (name_of r.admitting.row.member) (both (tally_of (being z v.row)) R)) p c)),
+            (subst (λ (z : Progress). IsCellCurrent (cell s.words h) (claim h v.row.member.instance r.admitting) (name_of r.admitting.row.member) (both (tally_of (being z v.row)) R)) p c)),
         refl,
       )) g8
 
@@ -296,7 +286,7 @@ module _ (n id : ℕ) (me : M) (g : ℕ) (g8 : g < 8) (is : me.0.stage ≡ Right
         moved s r id v at is lt (alive TookDeviceFront p (omega arith)) y refl (set s.words (5 * h + 3) 0) (set_len s.words (5 * h + 3) 0 ∙ r.size)
             (λ i ne. cell_else s.words h 0 (5 * h + 3) i (omega arith) (omega arith) ne) (record (cell s.words h) { memory_front = 0 }) (cell_memory_front s.words h 0 (omega arith))
             (λ R sound unit c. local.take_memory_front (cell s.words h) (claim h v.row.member.instance r.admitting) (name_of r.admitting.row.member) v.row R sound unit found refl
-            (subst (λ (z : Progress). IsCurrent (cell s.words h) (claim h v.row.member.instance r.admitting) (name_of r.admitting.row.member) (both (tally_of (being z v.row)) R)) p c)),
+            (subst (λ (z : Progress). IsCellCurrent (cell s.words h) (claim h v.row.member.instance r.admitting) (name_of r.admitting.row.member) (both (tally_of (being z v.row)) R)) p c)),
         refl,
       )) g8
 
@@ -309,7 +299,7 @@ module _ (n id : ℕ) (me : M) (g : ℕ) (g8 : g < 8) (is : me.0.stage ≡ Right
         moved s r id v at is lt (alive TookMemoryFront p (omega arith)) y refl (set s.words (5 * h + 4) 0) (set_len s.words (5 * h + 4) 0 ∙ r.size)
             (λ i ne. cell_else s.words h 0 (5 * h + 4) i (omega arith) (omega arith) ne) (record (cell s.words h) { closing = 0 }) (cell_closing s.words h 0 (omega arith))
             (λ R sound unit c. local.take_closing (cell s.words h) (claim h v.row.member.instance r.admitting) (name_of r.admitting.row.member) v.row R sound unit found refl
-            (subst (λ (z : Progress). IsCurrent (cell s.words h) (claim h v.row.member.instance r.admitting) (name_of r.admitting.row.member) (both (tally_of (being z v.row)) R)) p c)),
+            (subst (λ (z : Progress). IsCellCurrent (cell s.words h) (claim h v.row.member.instance r.admitting) (name_of r.admitting.row.member) (both (tally_of (being z v.row)) R)) p c)),
         refl,
       )) g8
 
@@ -323,7 +313,7 @@ module _ (n id : ℕ) (me : M) (g : ℕ) (g8 : g < 8) (is : me.0.stage ≡ Right
         moved s r id v at is lt (alive Unsettled p (omega arith)) y refl (set s.words (5 * h) new) (set_len s.words (5 * h) new ∙ r.size)
             (λ i ne. cell_else s.words h new (5 * h) i (omega arith) (omega arith) ne) (record (cell s.words h) { left = new }) (cell_left s.words h new (omega arith))
             (λ R sound unit c. local.settle_last (cell s.words h) (claim h v.row.member.instance r.admitting) (name_of r.admitting.row.member) v.row R sound unit found refl hit
-            (subst (λ (z : Progress). IsCurrent (cell s.words h) (claim h v.row.member.instance r.admitting) (name_of r.admitting.row.member) (both (tally_of (being z v.row)) R)) p c)),
+            (subst (λ (z : Progress). IsCellCurrent (cell s.words h) (claim h v.row.member.instance r.admitting) (name_of r.admitting.row.member) (both (tally_of (being z v.row)) R)) p c)),
         (small_count s r id v at is lt (alive Unsettled p (omega arith)), (λ _. refl), λ miss. absurd (miss hit)),
       ))
       (λ miss. let y : Row = record v.row { progress = Passed; found = found } in (
@@ -333,7 +323,7 @@ module _ (n id : ℕ) (me : M) (g : ℕ) (g8 : g < 8) (is : me.0.stage ≡ Right
         moved s r id v at is lt (alive Unsettled p (omega arith)) y refl (set s.words (5 * h) new) (set_len s.words (5 * h) new ∙ r.size)
             (λ i ne. cell_else s.words h new (5 * h) i (omega arith) (omega arith) ne) (record (cell s.words h) { left = new }) (cell_left s.words h new (omega arith))
             (λ R sound unit c. local.settle_else (cell s.words h) (claim h v.row.member.instance r.admitting) (name_of r.admitting.row.member) v.row R sound unit found refl miss
-            (subst (λ (z : Progress). IsCurrent (cell s.words h) (claim h v.row.member.instance r.admitting) (name_of r.admitting.row.member) (both (tally_of (being z v.row)) R)) p c)),
+            (subst (λ (z : Progress). IsCellCurrent (cell s.words h) (claim h v.row.member.instance r.admitting) (name_of r.admitting.row.member) (both (tally_of (being z v.row)) R)) p c)),
         (small_count s r id v at is lt (alive Unsettled p (omega arith)), (λ hit. absurd (miss hit)), λ _. refl),
       ))) g8
 

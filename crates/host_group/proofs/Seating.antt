@@ -4,16 +4,12 @@ use mathlib.Core.Option.{some, some-injective, some-ne-none}
 use lib.ListN.{get_elem?}
 use Rattle.atomic_table.specs.Table.{Splits, Joins, opening}
 use Rattle.atomic_table.proofs.Lists.{set_else}
-use Rattle.host_group.specs.declared.view.View.{View}
-use Rattle.host_group.specs.declared.view.Row.{Row}
-use Rattle.host_group.specs.declared.view.Stage.TheVariants.{Resting, Added, Right}
-use Rattle.host_group.specs.Failures.{no_failure}
-use Rattle.host_group.specs.Rule.{Cell, cell, IsCurrent, is_admitting, claim_of, claim, OneEnd}
-use Rattle.host_group.specs.Tallies.{Tally, nothing, both, unsettled_of, ending_of, tally_of, row_tally, rows_tally, tally_at, view_tally, tally, weight_at, weight}
-use Rattle.host_group.specs.Views.{total, first_view, spent_view, view_after_splitting, right_view, joined_view}
+use Rattle.host_group.specs.{View, Row, Resting, Added, Right, no_failure, Cell, cell, IsCellCurrent, is_admitting, claim_of, claim, OneEnd, Tally, nothing, both, unsettled_of, ending_of, tally_of, row_tally, rows_tally, tally_at, view_tally, tally, weight_at, weight, first_cell_view, spent_cell_view, view_after_splitting, right_view, joined_view}
+use Rattle.host_log.specs.{total}
+use Rattle.host_log.proofs.Totals.{without, total_set, total_snoc, fold_snoc, fold_unit}
+use Rattle.host_log.proofs.Places.{here}
 use Rattle.host_group.proofs.AdmitSteps.{as_seen, keep, regroup}
 use Rattle.host_group.proofs.CellWords.{at_all}
-use Rattle.host_group.proofs.Folds.{here, without, fold_snoc, fold_unit, total_set, total_snoc}
 use Rattle.host_group.proofs.RightSteps.{views_at, views_set}
 use Rattle.host_group.proofs.Tallies.{both_assoc, both_comm, both_nothing}
 
@@ -45,18 +41,18 @@ joined_tally g j (y ∷ ys) (suc i) v w b c a ne e same = let Q : Tally = tally 
 swap3 : (a b c : Tally) → both a (both b c) ≡ both b (both a c)
 swap3 a b c = sym (both_assoc a b c) ∙ (ap (λ z. both z c) (both_comm a b) ∙ both_assoc b a c)
 
-pub returns : (id : ℕ) (v : View) (other : ℕ) (w : View) → id ≡ 0 → v.stage ≡ Resting → w.stage ≡ Right → unsettled_of w.row.progress ≡ 0 → ending_of w.row.progress ≡ 0 → Joins OneEnd id v other w (joined_view v w) spent_view
-returns id v other w first is right used quiet = subst (λ (z : ℕ). Joins OneEnd z v other w (joined_view v w) spent_view) (sym first)
-    (λ s r at ne at'. let now = r.now in let l = as_seen s r v at in let b : View = joined_view v w in let vs : List View = set (set s.views 0 b) other spent_view in
+pub returns : (id : ℕ) (v : View) (other : ℕ) (w : View) → id ≡ 0 → v.stage ≡ Resting → w.stage ≡ Right → unsettled_of w.row.progress ≡ 0 → ending_of w.row.progress ≡ 0 → Joins OneEnd id v other w (joined_view v w) spent_cell_view
+returns id v other w first is right used quiet = subst (λ (z : ℕ). Joins OneEnd z v other w (joined_view v w) spent_cell_view) (sym first)
+    (λ s r at ne at'. let now = r.now in let l = as_seen s r v at in let b : View = joined_view v w in let vs : List View = set (set s.views 0 b) other spent_cell_view in
     let e : get_elem? s.views other ≡ some w = sym (set_else s.views 0 other b ne) ∙ at' in
     let bt : (g j : ℕ) → view_tally g j b ≡ both (row_tally g j w.row) (rows_tally g j v.back) = λ g j. ap (tally_at g j b) is in
     let vt : (g j : ℕ) → view_tally g j v ≡ rows_tally g j v.back = λ g j. ap (tally_at g j v) is in
     let wt : (g j : ℕ) → view_tally g j w ≡ row_tally g j w.row = λ g j. ap (tally_at g j w) right in
-    regroup s v b now l vs (set_else (set s.views 0 b) other 0 spent_view (λ z. ne (sym z)) ∙ here s.views 0 v b at) (ap is_admitting is) (ap claim_of is) refl refl (omega arith)
-    (λ g j. joined_tally g j s.views other v w b spent_view at ne e
+    regroup s v b now l vs (set_else (set s.views 0 b) other 0 spent_cell_view (λ z. ne (sym z)) ∙ here s.views 0 v b at) (ap is_admitting is) (ap claim_of is) refl refl (omega arith)
+    (λ g j. joined_tally g j s.views other v w b spent_cell_view at ne e
     (both_comm (view_tally g j b) nothing ∙ (ap (both nothing) (bt g j) ∙ (swap3 nothing (row_tally g j w.row) (rows_tally g j v.back)
     ∙ (ap (both (row_tally g j w.row)) (fold_unit both nothing both_assoc both_comm (row_tally g j) both_nothing v.back) ∙ (both_comm (row_tally g j w.row) (rows_tally g j v.back) ∙ ap₂ both (sym (vt g j)) (sym (wt g j))))))))
-    (λ φ. let x = total_set (weight φ) s.views 0 v b at in let y = total_set (weight φ) (set s.views 0 b) other w spent_view at' in
+    (λ φ. let x = total_set (weight φ) s.views 0 v b at in let y = total_set (weight φ) (set s.views 0 b) other w spent_cell_view at' in
     let p : weight φ b ≡ φ w.row.member + total (λ (r : Row). φ r.member) v.back = ap (weight_at φ b) is in let q : weight φ v ≡ total (λ (r : Row). φ r.member) v.back = ap (weight_at φ v) is in let o : weight φ w ≡ φ w.row.member = ap (weight_at φ w) right in omega arith)
     (λ g j. let k = l.back g j in let k0 = k.0 in let k1 = k.1 in let m0 : (row_tally g j w.row).unsettled ≡ 0 = at_all g j w.row.member (tally_of w.row) nothing (λ t. t.unsettled ≡ 0) used refl in
     let m1 : (row_tally g j w.row).ending ≡ 0 = at_all g j w.row.member (tally_of w.row) nothing (λ t. t.ending ≡ 0) quiet refl in (omega arith, omega arith)))
@@ -79,7 +75,7 @@ first_cells (suc (suc (suc (suc (suc (suc zero)))))) lt = refl
 first_cells (suc (suc (suc (suc (suc (suc (suc zero))))))) lt = refl
 first_cells (suc (suc (suc (suc (suc (suc (suc (suc g)))))))) lt = absurd (omega arith)
 
-first_current : (name : ℕ) → IsCurrent first_cell 0 name nothing
+first_current : (name : ℕ) → IsCellCurrent first_cell 0 name nothing
 first_current name = record {
   left = refl;
   few = omega arith;
@@ -98,14 +94,14 @@ first_current name = record {
   named = λ x. absurd (omega arith);
 }
 
-pub opens : OneEnd (opening first_words [] first_view)
-opens = let v : View = first_view in keep (opening first_words [] v) v (λ _. 0) record {
+pub opens : OneEnd (opening first_words [] first_cell_view)
+opens = let v : View = first_cell_view in keep (opening first_words [] v) v (λ _. 0) record {
   here = refl;
   admits = refl;
   size = refl;
   each = λ g j g8. let z : claim g j v ≡ 0 = at_all g j v.row.member 0 0 (λ y. y ≡ 0) refl refl in record {
     over = λ a. absurd (omega arith);
-    current = λ _. subst (λ (y : Cell × ℕ). IsCurrent y.0 y.1 0 nothing) (λ i. (sym (first_cells g g8) i, sym z i)) (first_current 0);
+    current = λ _. subst (λ (y : Cell × ℕ). IsCellCurrent y.0 y.1 0 nothing) (λ i. (sym (first_cells g g8) i, sym z i)) (first_current 0);
     later = λ _. (refl, z);
   };
   counted = λ φ. refl;

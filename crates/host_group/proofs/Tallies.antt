@@ -2,11 +2,7 @@
 use Rattle.std.proofs.Common.{◌≡◌, ℕ, ◌+◌, ◌/◌, ◌≤◌, refl, ap₂, arith}
 use Rattle.std.specs.Prelude.{min, max, Bool, true, false}
 use Rattle.std.proofs.Math.Nat.{min_comm}
-use Rattle.host_group.specs.declared.view.Row.{Row}
-use Rattle.host_group.specs.declared.view.Progress.{Progress}
-use Rattle.host_group.specs.declared.view.Progress.TheVariants.{Unsettled, Last, TookError, TookDeviceFront, TookMemoryFront, TookClosing, Ended, Passed}
-use Rattle.host_group.specs.Tallies.{Tally, nothing, both, unsettled_of, ending_of, ended_of, error_out_of, device_front_out_of, memory_front_out_of, closing_out_of, told_of, if_last, tally_of}
-use Rattle.host_group.specs.Views.{bit, name_of}
+use Rattle.host_group.specs.{Row, Progress, Unsettled, Last, TookError, TookDeviceFront, TookMemoryFront, TookClosing, Ended, Passed, Tally, nothing, both, unsettled_of, ending_of, ended_of, error_out_of, device_front_out_of, memory_front_out_of, closing_out_of, told_number, if_last, tally_of, bit, name_of}
 
 min_assoc : (a b c : ℕ) → min (min a b) c ≡ min a (min b c)
 min_assoc a b c = omega arith
@@ -144,7 +140,7 @@ closing_of TookClosing = omega arith
 closing_of Ended = omega arith
 closing_of Passed = omega arith
 
-quiet_of : (p : Progress) (n : ℕ) → ending_of p ≡ 0 → ended_of p ≡ 0 → told_of p n ≡ 0
+quiet_of : (p : Progress) (n : ℕ) → ending_of p ≡ 0 → ended_of p ≡ 0 → told_number p n ≡ 0
 quiet_of Unsettled n x y = refl
 quiet_of Last n x y = absurd (omega arith)
 quiet_of TookError n x y = absurd (omega arith)

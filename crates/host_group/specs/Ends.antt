@@ -1,5 +1,6 @@
 -- How instances end, by their rows in the order in which the members were admitted.
-use Rattle.std.specs.Prelude.{◌≡◌, ℕ, ◌/◌, ◌%◌, ◌^◌, ◌<◌, ◌≤◌, ◌==◌, List, [], ◌∷◌, length, map, filter, find, max, Option, Some, None, unwrap_or}
+use Rattle.std.specs.Prelude.{◌≡◌, ℕ, ◌/◌, ◌%◌, ◌^◌, ◌<◌, ◌≤◌, ◌==◌, List, [], ◌∷◌, length, map}
+use Rattle.std.specs.Prelude.{filter, find, max, Option, Some, None, unwrap_or}
 use Rattle.std.specs.List.{cons_option}
 use Rattle.host_model.specs.Answers.{first_failure}
 use Rattle.host_group.specs.declared.view.Row.{Row}
@@ -8,7 +9,8 @@ use Rattle.host_group.specs.declared.view.Progress.{Progress}
 use Rattle.host_group.specs.declared.view.Progress.TheVariants.{Ended}
 use Rattle.host_group.specs.declared.group_end.GroupEnd.{GroupEnd}
 use Rattle.host_group.specs.Failures.{status_of}
-use Rattle.host_group.specs.Views.{total, where_in, closings, fresh_row}
+use Rattle.host_group.specs.Views.{where_in, members_closing, fresh_row}
+use Rattle.host_log.specs.Sums.{total}
 
 abbrev pub greatest : List ℕ → ℕ
 greatest [] = 0
@@ -40,11 +42,19 @@ abbrev pub instance_rows : ℕ → ℕ → List Member → List Row → List Row
 instance_rows g j admitted back = map (row_of back) (members_of g j admitted)
 
 -- the end in the words that a row took out
-abbrev pub end_in : Row → GroupEnd
-end_in r = record { status = status_of r.end_error; count = r.found / 256; reqid = r.end_closing / 2 ^ 32; index = r.end_closing % 2 ^ 32; device_front = r.end_device_front; memory_front = r.end_memory_front }
+abbrev pub end_in_row : Row → GroupEnd
+end_in_row r =
+    record {
+      status = status_of r.end_error;
+      count = r.found / 256;
+      reqid = r.end_closing / 2 ^ 32;
+      index = r.end_closing % 2 ^ 32;
+      device_front = r.end_device_front;
+      memory_front = r.end_memory_front;
+    }
 
 abbrev pub end_at : Progress → Row → Option GroupEnd
-end_at Ended r = Some (end_in r)
+end_at Ended r = Some (end_in_row r)
 end_at _ r = None
 
 -- the end that a member's settling told
@@ -62,11 +72,14 @@ HasOneEnd rows = (e : GroupEnd) × (ends_of rows ≡ e ∷ []) × IsEnd rows e
 
 -- a closed instance has its end, and one that isn't closed has none
 abbrev pub HasItsEnd : ℕ → ℕ → List Member → List Row → Type 0
-HasItsEnd g j admitted back = (j < closings g admitted → HasOneEnd (instance_rows g j admitted back)) × (closings g admitted ≤ j → ends_of (instance_rows g j admitted back) ≡ [])
+HasItsEnd g j admitted back =
+    (j < members_closing g admitted → HasOneEnd (instance_rows g j admitted back))
+    × (members_closing g admitted ≤ j → ends_of (instance_rows g j admitted back) ≡ [])
 
 -- the rows that came back are those of the members that were admitted
 abbrev pub AreThoseAdmitted : List Member → List Row → Type 0
-AreThoseAdmitted admitted back = (φ : Member → ℕ) → total φ admitted ≡ total (λ (r : Row). φ r.member) back
+AreThoseAdmitted admitted back =
+    (φ : Member → ℕ) → total φ admitted ≡ total (λ (r : Row). φ r.member) back
 
 -- each member has its row
 abbrev pub HaveRows : List Member → List Row → Type 0

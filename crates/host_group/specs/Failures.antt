@@ -1,7 +1,9 @@
 -- The word of a failure: an index and a status, packed so that the index decides first.
 use Rattle.std.specs.Prelude.{ℕ, ◌+◌, ◌*◌, ◌%◌, ◌==◌, cond}
 use Rattle.host_record.specs.declared.status.Status.{Status}
-use Rattle.host_record.specs.declared.status.Status.TheVariants.{Ok, NotSupported, NoMemory, InvalidArgs, OutOfRange, TooSmall, NotFound, Io}
+use Rattle.host_record.specs.declared.status.Status.TheVariants.{Ok, NotSupported, NoMemory}
+use Rattle.host_record.specs.declared.status.Status.TheVariants.{InvalidArgs, OutOfRange, TooSmall}
+use Rattle.host_record.specs.declared.status.Status.TheVariants.{NotFound, Io}
 
 -- the word where nobody failed, the greatest of all
 abbrev pub no_failure : ℕ
@@ -20,7 +22,9 @@ failure_word index Io = 8 * index + 7
 
 -- the status of a failure, by the last three bits of its word
 abbrev pub status_of_bits : ℕ → Status
-status_of_bits n = cond (n == 1) NotSupported (cond (n == 2) NoMemory (cond (n == 3) InvalidArgs (cond (n == 4) OutOfRange (cond (n == 5) TooSmall (cond (n == 6) NotFound Io)))))
+status_of_bits n =
+    cond (n == 1) NotSupported (cond (n == 2) NoMemory (cond (n == 3) InvalidArgs
+    (cond (n == 4) OutOfRange (cond (n == 5) TooSmall (cond (n == 6) NotFound Io)))))
 
 -- the status that a word tells
 abbrev pub status_of : ℕ → Status

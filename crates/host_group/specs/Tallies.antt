@@ -1,19 +1,18 @@
 -- What the rows of one instance come to.
-use Rattle.std.specs.Prelude.{ℕ, ◌+◌, ◌/◌, List, [], ◌∷◌, Bool, true, false, min, max}
+use Rattle.std.specs.Prelude.{ℕ, ◌+◌, ◌/◌, List, Bool, true, false, min, max}
 use Rattle.host_group.specs.declared.view.View.{View}
 use Rattle.host_group.specs.declared.view.Row.{Row}
 use Rattle.host_group.specs.declared.view.Member.{Member}
 use Rattle.host_group.specs.declared.view.Stage.{Stage}
-use Rattle.host_group.specs.declared.view.Stage.TheVariants.{Resting, Looked, Placed, Added, Right, Spent}
+use Rattle.host_group.specs.declared.view.Stage.TheVariants.{Resting, Looked, Placed, Added, Right}
+use Rattle.host_group.specs.declared.view.Stage.TheVariants.{Spent}
 use Rattle.host_group.specs.declared.view.Progress.{Progress}
-use Rattle.host_group.specs.declared.view.Progress.TheVariants.{Unsettled, Last, TookError, TookDeviceFront, TookMemoryFront, TookClosing, Ended, Passed}
+use Rattle.host_group.specs.declared.view.Progress.TheVariants.{Unsettled, Last, TookError}
+use Rattle.host_group.specs.declared.view.Progress.TheVariants.{TookDeviceFront, TookMemoryFront}
+use Rattle.host_group.specs.declared.view.Progress.TheVariants.{TookClosing, Ended, Passed}
 use Rattle.host_group.specs.Failures.{no_failure, failure_word}
-use Rattle.host_group.specs.Views.{total, bit, where_in, name_of}
-
--- the values of a function on a list, put together
-abbrev pub fold : {A T : Type 0} → (T → T → T) → T → (A → T) → List A → T
-fold op e f [] = e
-fold op e f (x ∷ xs) = op (f x) (fold op e f xs)
+use Rattle.host_group.specs.Views.{bit, where_in, name_of}
+use Rattle.host_log.specs.Sums.{fold, total}
 
 pub record Tally : Type 0 where
   pub rows : ℕ
@@ -125,10 +124,10 @@ closing_out_of TookClosing = 1
 closing_out_of _ = 0
 
 -- what an end tells counts from the last subtraction on
-abbrev pub told_of : Progress → ℕ → ℕ
-told_of Unsettled n = 0
-told_of Passed n = 0
-told_of _ n = n
+abbrev pub told_number : Progress → ℕ → ℕ
+told_number Unsettled n = 0
+told_number Passed n = 0
+told_number _ n = n
 
 abbrev pub if_last : Bool → ℕ → ℕ
 if_last true n = n
@@ -150,11 +149,11 @@ tally_of r = record {
   device_front_out = device_front_out_of r.progress;
   memory_front_out = memory_front_out_of r.progress;
   closing_out = closing_out_of r.progress;
-  end_error = told_of r.progress r.end_error;
-  end_device_front = told_of r.progress r.end_device_front;
-  end_memory_front = told_of r.progress r.end_memory_front;
-  end_closing = told_of r.progress r.end_closing;
-  end_count = told_of r.progress (r.found / 256);
+  end_error = told_number r.progress r.end_error;
+  end_device_front = told_number r.progress r.end_device_front;
+  end_memory_front = told_number r.progress r.end_memory_front;
+  end_closing = told_number r.progress r.end_closing;
+  end_count = told_number r.progress (r.found / 256);
 }
 
 -- the same, where the row is of the instance j of the number g

@@ -1,8 +1,12 @@
 //! The admitting seat admits members, and takes their rights back.
-ghost use Rattle.std.specs.Prelude.{◌≡◌, ◌≤◌, ◌<◌, ◌+◌, ◌*◌, ◌++◌, [], ◌∷◌, true, false, IfOk, IfErr};
-ghost use Rattle.host_group.specs.Seats.{IsAdmitting, IsClaiming, IsSeatAt, IsRight, IsUsed, IsFewerOut, admitted, back, next, refusals, row, member, view_of};
+ghost use Rattle.std.specs.Prelude.{◌≡◌, ◌≤◌, ◌<◌, ◌+◌, ◌*◌, ◌++◌, [], ◌∷◌, true, false, IfOk};
+ghost use Rattle.std.specs.Prelude.{IfErr};
+ghost use Rattle.host_group.specs.Seats.{IsAdmitting, IsClaiming, IsSeatAt, IsRight, IsUsed};
+ghost use Rattle.host_group.specs.Seats.{IsFewerOut, admitted, back, next, refusals, row, member};
+ghost use Rattle.host_group.specs.Seats.{view_of};
 ghost use Rattle.host_group.specs.declared.view.Stage.TheVariants.{Looked, Placed, Added};
-ghost use Rattle.host_group.specs.Views.{closings, fresh_row, name_of, refused_view, looking_view, placed_view, added_view};
+ghost use Rattle.host_group.specs.Views.{members_closing, fresh_row, name_of, refused_view};
+ghost use Rattle.host_group.specs.Views.{looking_cell_view, placed_view, added_view};
 ghost use Rattle.host_group.specs.Steps.{IsBusy};
 
 use crate::cell_busy::CellBusy;
@@ -11,7 +15,8 @@ use crate::seat::CellSeat;
 use crate::steps::{Add, AddLast, HandOut, Look, Place, Return};
 
 impl Cells {
-    /// Admits a member to the current instance of the number g, and gives the right to settle it. It waits for nobody.
+    /// Admits a member to the current instance of the number g, and gives the right to settle it.
+    /// It waits for nobody.
     pub fn admit(
         &self,
         seat: &mut CellSeat,
@@ -24,10 +29,18 @@ impl Cells {
         requires index { (next seat.old ≤ index) × (index < 4294967295) }
         requires room { IsFewerOut seat.old 64 }
         ensures seat { IsAdmitting self.now seat.new × (back seat.new ≡ back seat.old) }
-        ensures right { IfOk result (λ right. IsRight self.now g right × (row right ≡ fresh_row (member g (closings g (admitted seat.old)) index reqid last))) }
-        ensures admitted { IfOk result (λ right. (admitted seat.new ≡ admitted seat.old ++ member g (closings g (admitted seat.old)) index reqid last ∷ []) × (next seat.new ≡ index + 1)) }
+        ensures right { IfOk result (λ right.
+            IsRight self.now g right
+            × (row right
+            ≡ fresh_row (member g (members_closing g (admitted seat.old)) index reqid last))) }
+        ensures admitted { IfOk result (λ right.
+            (admitted seat.new
+            ≡ admitted seat.old
+            ++ member g (members_closing g (admitted seat.old)) index reqid last ∷ [])
+            × (next seat.new ≡ index + 1)) }
         ensures looked { IfOk result (λ right. refusals seat.new ≡ refusals seat.old) }
-        ensures busy { IfErr result (λ _. (view_of seat.new ≡ refused_view (view_of seat.old)) × IsBusy g (view_of seat.old)) }
+        ensures busy { IfErr result (λ _.
+            (view_of seat.new ≡ refused_view (view_of seat.old)) × IsBusy g (view_of seat.old)) }
     {
         let name = index as u64 + 4294967296 * reqid as u64;
         if self.look(seat, g, name) {
@@ -41,8 +54,12 @@ impl Cells {
     // Has the number a closed instance that has not ended?
     fn look(&self, seat: &mut CellSeat, g: u16, name: u64) -> bool
         requires { IsAdmitting self.now seat.old × (g ≤ 7) }
-        ensures closed { result ≡ true → IsAdmitting self.now seat.new × (view_of seat.new ≡ refused_view (view_of seat.old)) × IsBusy g (view_of seat.old) }
-        ensures clear { result ≡ false → IsClaiming Looked self.now g seat.new × (view_of seat.new ≡ looking_view (view_of seat.old) g name) }
+        ensures closed { result ≡ true
+            → IsAdmitting self.now seat.new × (view_of seat.new ≡ refused_view (view_of seat.old))
+            × IsBusy g (view_of seat.old) }
+        ensures clear { result ≡ false
+            → IsClaiming Looked self.now g seat.new
+            × (view_of seat.new ≡ looking_cell_view (view_of seat.old) g name) }
     {
         let left = self
             .table
@@ -52,10 +69,13 @@ impl Cells {
     }
 
     fn add(&self, seat: &mut CellSeat, g: u16, name: u64, last: bool)
-        requires seat { IsClaiming Looked self.now g seat.old × (g ≤ 7) × (name_of (row seat.old).member ≡ name) }
+        requires seat { IsClaiming Looked self.now g seat.old × (g ≤ 7)
+            × (name_of (row seat.old).member ≡ name) }
         requires room { IsFewerOut seat.old 64 }
-        requires index { (next seat.old ≤ (row seat.old).member.index) × ((row seat.old).member.index < 4294967295) }
-        ensures { IsSeatAt Added self.now seat.new × (view_of seat.new ≡ added_view last (view_of seat.old)) }
+        requires index { (next seat.old ≤ (row seat.old).member.index)
+            × ((row seat.old).member.index < 4294967295) }
+        ensures { IsSeatAt Added self.now seat.new
+            × (view_of seat.new ≡ added_view last (view_of seat.old)) }
     {
         if last {
             self.place(seat, g, name);
@@ -70,8 +90,10 @@ impl Cells {
     }
 
     fn place(&self, seat: &mut CellSeat, g: u16, name: u64)
-        requires { IsClaiming Looked self.now g seat.old × (g ≤ 7) × (name_of (row seat.old).member ≡ name) }
-        ensures { IsClaiming Placed self.now g seat.new × (view_of seat.new ≡ placed_view (view_of seat.old)) }
+        requires { IsClaiming Looked self.now g seat.old × (g ≤ 7)
+            × (name_of (row seat.old).member ≡ name) }
+        ensures { IsClaiming Placed self.now g seat.new
+            × (view_of seat.new ≡ placed_view (view_of seat.old)) }
     {
         self.table
             .shared
@@ -82,7 +104,8 @@ impl Cells {
     pub fn join_right(&self, seat: &mut CellSeat, right: CellSeat)
         requires seat { IsAdmitting self.now seat.old }
         requires right { IsRight self.now (row right).member.number right × IsUsed right }
-        ensures seat { IsAdmitting self.now seat.new × (admitted seat.new ≡ admitted seat.old) × (next seat.new ≡ next seat.old) × (refusals seat.new ≡ refusals seat.old) }
+        ensures seat { IsAdmitting self.now seat.new × (admitted seat.new ≡ admitted seat.old)
+            × (next seat.new ≡ next seat.old) × (refusals seat.new ≡ refusals seat.old) }
         ensures back { back seat.new ≡ row right ∷ back seat.old }
     {
         self.table

@@ -30,9 +30,11 @@ impl Cells {
     ghost use Rattle.host_group.specs.Seats.{IsAdmitting, IsNoneOut, admitted, back, next};
     ghost use Rattle.host_group.specs.Ends.{HaveRows, AreThoseAdmitted, HasItsEnd};
 
-    /// Cells with no member, and their admitting seat. It has `Oom` for an answer only for want of memory.
+    /// Cells with no member, and their admitting seat. It has `Oom` for an answer only for want of
+    /// memory.
     pub fn new(alloc: Global) -> Result<(Cells, CellSeat), Oom>
-        ensures { IfOk result (λ r. IsAdmitting r.0 r.1 × (admitted r.1 ≡ []) × (back r.1 ≡ []) × (next r.1 ≡ 0)) }
+        ensures { IfOk result
+            (λ r. IsAdmitting r.0 r.1 × (admitted r.1 ≡ []) × (back r.1 ≡ []) × (next r.1 ≡ 0)) }
     {
         let words = [
             0, NO_FAILURE, 0, 0, 0, 0, NO_FAILURE, 0, 0, 0, 0, NO_FAILURE, 0, 0, 0, 0, NO_FAILURE,
@@ -45,7 +47,8 @@ impl Cells {
         }
     }
 
-    /// Ends the cells, once all rights came back. Of the members of each closed instance just one was told an end, which is that of the instance.
+    /// Ends the cells, once all rights came back. Of the members of each closed instance just one
+    /// was told an end, which is that of the instance.
     pub fn close(self, seat: CellSeat)
         requires { IsAdmitting self seat × IsNoneOut seat }
         ensures rows { HaveRows (admitted seat) (back seat) }

@@ -12,5 +12,14 @@ impl Model for CellsName {
 
     ghost coded = { table_id_coded };
 
-    ghost view = { λ _. record { words = 0; slots = 0; views_name = 0; atom = 0; block = 0; offset = 0; slot_names = [] } };
+    ghost view = { λ _.
+        record {
+          words = 0;
+          slots = 0;
+          views_name = 0;
+          atom = 0;
+          block = 0;
+          offset = 0;
+          slot_names = [];
+        } };
 }

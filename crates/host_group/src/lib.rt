@@ -1,4 +1,5 @@
-//! Eight cells, in which the members of groups settle without a lock: each closed group instance has one end.
+//! Eight cells, in which the members of groups settle without a lock: each closed group instance
+//! has one end.
 #![tactic(auto)]
 
 mod admit;

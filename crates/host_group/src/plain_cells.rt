@@ -1,5 +1,7 @@
-//! The cells of one thread, the plain program that says what the others are to do. Tests compare with it.
-ghost use Rattle.std.specs.Prelude.{◌≡◌, ◌≢◌, ◌⊎◌, ◌≤◌, ◌<◌, ◌+◌, ◌++◌, ◌∷◌, [], ℕ, List, true, false, set, length, All, IfOk, IfErr, MatchOption};
+//! The cells of one thread, the plain program that says what the others are to do. Tests compare
+//! with it.
+ghost use Rattle.std.specs.Prelude.{◌≡◌, ◌≢◌, ◌⊎◌, ◌≤◌, ◌<◌, ◌+◌, ◌++◌, ◌∷◌, [], ℕ, List, true};
+ghost use Rattle.std.specs.Prelude.{false, set, length, All, IfOk, IfErr, MatchOption};
 
 use crate::cell_busy::CellBusy;
 use crate::failure::{NO_FAILURE, failure_word, status_of};
@@ -45,7 +47,8 @@ impl PlainCells {
     ghost use Rattle.host_group.specs.Views.{fresh_row};
     ghost use Rattle.host_group.specs.Seats.{member};
     ghost use Rattle.host_group.specs.Ends.{IsEnd};
-    ghost use Rattle.host_group.specs.PlainRows.{plain_cell, HasRows, IsWaiting, IsGoingOn, settled_row};
+    ghost use Rattle.host_group.specs.PlainRows.{plain_cell, HasRows, IsRowWaiting, IsGoingOn};
+    ghost use Rattle.host_group.specs.PlainRows.{settled_row};
 
     /// Cells with no member.
     pub fn new() -> PlainCells
@@ -61,11 +64,17 @@ impl PlainCells {
     pub fn admit(&mut self, g: u16, index: u32, reqid: u32, last: bool) -> Result<(), CellBusy>
         requires number { g ≤ 7 }
         requires index { (self.old.next ≤ index) × (index < 4294967295) }
-        ensures busy { IfErr result (λ _. ((plain_cell g self.old).closed ≡ true) × (self.new ≡ self.old)) }
-        ensures free { IfOk result (λ _. ((plain_cell g self.old).closed ≡ false) × (self.new.next ≡ index + 1)) }
-        ensures unsettled { IfOk result (λ _. (plain_cell g self.new).unsettled ≡ (plain_cell g self.old).unsettled + 1) }
-        ensures rows { IfOk result (λ _. (rows : List Row) (j : ℕ) → HasRows g self.old rows → HasRows g self.new (rows ++ fresh_row (member g j index reqid last) ∷ [])) }
-        ensures others { IfOk result (λ _. (h : ℕ) (rows : List Row) → h ≢ g → HasRows h self.old rows → HasRows h self.new rows) }
+        ensures busy { IfErr result
+            (λ _. ((plain_cell g self.old).closed ≡ true) × (self.new ≡ self.old)) }
+        ensures free { IfOk result
+            (λ _. ((plain_cell g self.old).closed ≡ false) × (self.new.next ≡ index + 1)) }
+        ensures unsettled { IfOk result
+            (λ _. (plain_cell g self.new).unsettled ≡ (plain_cell g self.old).unsettled + 1) }
+        ensures rows { IfOk result (λ _.
+            (rows : List Row) (j : ℕ) → HasRows g self.old rows
+            → HasRows g self.new (rows ++ fresh_row (member g j index reqid last) ∷ [])) }
+        ensures others { IfOk result (λ _.
+            (h : ℕ) (rows : List Row) → h ≢ g → HasRows h self.old rows → HasRows h self.new rows) }
     {
         let cell = self.cells[g as usize];
         if cell.closed {
@@ -91,11 +100,19 @@ impl PlainCells {
     ) -> Option<GroupEnd>
         requires { (g ≤ 7) × (0 < (plain_cell g self.old).unsettled) }
         ensures next { self.new.next ≡ self.old.next }
-        ensures unsettled { MatchOption result ((plain_cell g self.new).unsettled + 1 ≡ (plain_cell g self.old).unsettled) (λ _. (plain_cell g self.new).unsettled ≡ 0) }
-        ensures end { (rows : List Row) (i : ℕ) (r : Row) → HasRows g self.old rows → IsWaiting rows i index r →
-            MatchOption result (HasRows g self.new (set rows i (settled_row r status device_front memory_front)) × IsGoingOn (set rows i (settled_row r status device_front memory_front)))
-            (λ e. HasRows g self.new [] × IsEnd (set rows i (settled_row r status device_front memory_front)) e) }
-        ensures others { (h : ℕ) (rows : List Row) → h ≢ g → HasRows h self.old rows → HasRows h self.new rows }
+        ensures unsettled { MatchOption result
+            ((plain_cell g self.new).unsettled + 1 ≡ (plain_cell g self.old).unsettled)
+            (λ _. (plain_cell g self.new).unsettled ≡ 0) }
+        ensures end { (rows : List Row) (i : ℕ) (r : Row) → HasRows g self.old rows
+            → IsRowWaiting rows i index r
+            → MatchOption result (HasRows g self.new
+            (set rows i (settled_row r status device_front memory_front))
+            × IsGoingOn (set rows i (settled_row r status device_front memory_front)))
+            (λ e.
+            HasRows g self.new []
+            × IsEnd (set rows i (settled_row r status device_front memory_front)) e) }
+        ensures others { (h : ℕ) (rows : List Row) → h ≢ g → HasRows h self.old rows
+            → HasRows h self.new rows }
     {
         let word = failure_word(index, status);
         let cell = self.cells[g as usize].with_settled(word, device_front, memory_front);

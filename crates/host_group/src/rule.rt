@@ -7,9 +7,9 @@ pub struct CellRule;
 
 impl TableRule<(), View, ()> for CellRule {
     ghost use Rattle.host_group.specs.Rule.{OneEnd};
-    ghost use Rattle.host_group.specs.Views.{first_view};
+    ghost use Rattle.host_group.specs.Views.{first_cell_view};
 
     ghost holds = { λ k. OneEnd };
 
-    ghost first = { λ k. first_view };
+    ghost first = { λ k. first_cell_view };
 }

@@ -1,10 +1,11 @@
 //! A right settles its member.
 ghost use Rattle.std.specs.Prelude.{◌≡◌, ◌/◌, MatchOption};
 ghost use Rattle.host_record.specs.declared.status.Status.TheVariants.{Ok};
-ghost use Rattle.host_group.specs.Seats.{IsRight, IsUnused, IsUsed, row};
-ghost use Rattle.host_group.specs.Ends.{end_of, end_in};
+ghost use Rattle.host_group.specs.Seats.{IsRight, IsSeatUnused, IsUsed, row};
+ghost use Rattle.host_group.specs.Ends.{end_of, end_in_row};
 ghost use Rattle.host_group.specs.Steps.{IsLast};
-ghost use Rattle.host_group.specs.declared.view.Progress.TheVariants.{Unsettled, Last, Ended, Passed};
+ghost use Rattle.host_group.specs.declared.view.Progress.TheVariants.{Unsettled, Last, Ended};
+ghost use Rattle.host_group.specs.declared.view.Progress.TheVariants.{Passed};
 
 use crate::cells::{CLOSING, Cells, DEVICE_FRONT, ERROR, MEMORY_FRONT};
 use crate::failure::{NO_FAILURE, failure_word, status_of};
@@ -17,7 +18,8 @@ use crate::steps::{
 use host_record::Status;
 
 impl Cells {
-    /// Settles the member that the right is for. The last one of a closed instance is told how the instance ended. It waits for nobody.
+    /// Settles the member that the right is for. The last one of a closed instance is told how the
+    /// instance ended. It waits for nobody.
     pub fn settle(
         &self,
         right: &mut CellSeat,
@@ -27,11 +29,15 @@ impl Cells {
         device_front: u64,
         memory_front: u64,
     ) -> Option<GroupEnd>
-        requires right { IsRight self.now g right.old × IsUnused right.old }
+        requires right { IsRight self.now g right.old × IsSeatUnused right.old }
         requires index { (row right.old).member.index ≡ index }
-        ensures right { IsRight self.now g right.new × IsUsed right.new × ((row right.new).member ≡ (row right.old).member) }
-        ensures told { ((row right.new).status ≡ status) × ((row right.new).device_front ≡ device_front) × ((row right.new).memory_front ≡ memory_front) }
-        ensures last { MatchOption result (IsLast (row right.new).found → ⊥) (λ _. IsLast (row right.new).found) }
+        ensures right { IsRight self.now g right.new × IsUsed right.new
+            × ((row right.new).member ≡ (row right.old).member) }
+        ensures told { ((row right.new).status ≡ status)
+            × ((row right.new).device_front ≡ device_front)
+            × ((row right.new).memory_front ≡ memory_front) }
+        ensures last { MatchOption result (IsLast (row right.new).found → ⊥)
+            (λ _. IsLast (row right.new).found) }
         ensures end { result ≡ end_of (row right.new) }
     {
         self.put_error(right, g, index, status);
@@ -44,9 +50,11 @@ impl Cells {
     }
 
     fn put_error(&self, right: &mut CellSeat, g: u16, index: u32, status: Status)
-        requires right { IsRight self.now g right.old × ((row right.old).progress ≡ Unsettled) × ((row right.old).status ≡ Ok) }
+        requires right { IsRight self.now g right.old × ((row right.old).progress ≡ Unsettled)
+            × ((row right.old).status ≡ Ok) }
         requires index { (row right.old).member.index ≡ index }
-        ensures { IsRight self.now g right.new × (row right.new ≡ record (row right.old) { status = status }) }
+        ensures { IsRight self.now g right.new
+            × (row right.new ≡ record (row right.old) { status = status }) }
     {
         match status {
             Status::Ok => {}
@@ -60,8 +68,10 @@ impl Cells {
     }
 
     fn put_device_front(&self, right: &mut CellSeat, g: u16, front: u64)
-        requires { IsRight self.now g right.old × ((row right.old).progress ≡ Unsettled) × ((row right.old).device_front ≡ 0) }
-        ensures { IsRight self.now g right.new × (row right.new ≡ record (row right.old) { device_front = front }) }
+        requires { IsRight self.now g right.old × ((row right.old).progress ≡ Unsettled)
+            × ((row right.old).device_front ≡ 0) }
+        ensures { IsRight self.now g right.new
+            × (row right.new ≡ record (row right.old) { device_front = front }) }
     {
         let word = 5 * g as usize + DEVICE_FRONT;
         self.table
@@ -70,8 +80,10 @@ impl Cells {
     }
 
     fn put_memory_front(&self, right: &mut CellSeat, g: u16, front: u64)
-        requires { IsRight self.now g right.old × ((row right.old).progress ≡ Unsettled) × ((row right.old).memory_front ≡ 0) }
-        ensures { IsRight self.now g right.new × (row right.new ≡ record (row right.old) { memory_front = front }) }
+        requires { IsRight self.now g right.old × ((row right.old).progress ≡ Unsettled)
+            × ((row right.old).memory_front ≡ 0) }
+        ensures { IsRight self.now g right.new
+            × (row right.new ≡ record (row right.old) { memory_front = front }) }
     {
         let word = 5 * g as usize + MEMORY_FRONT;
         self.table
@@ -83,9 +95,12 @@ impl Cells {
     fn count_off(&self, right: &mut CellSeat, g: u16) -> Option<u32>
         requires { IsRight self.now g right.old × ((row right.old).progress ≡ Unsettled) }
         ensures right { IsRight self.now g right.new }
-        ensures row { MatchOption result
-            ((row right.new ≡ record (row right.old) { progress = Passed; found = (row right.new).found }) × (IsLast (row right.new).found → ⊥))
-            (λ n. (row right.new ≡ record (row right.old) { progress = Last; found = (row right.new).found }) × IsLast (row right.new).found × (n ≡ (row right.new).found / 256)) }
+        ensures row { MatchOption result ((row right.new
+            ≡ record (row right.old) { progress = Passed; found = (row right.new).found })
+            × (IsLast (row right.new).found → ⊥)) (λ n.
+            (row right.new
+            ≡ record (row right.old) { progress = Last; found = (row right.new).found })
+            × IsLast (row right.new).found × (n ≡ (row right.new).found / 256)) }
     {
         let left = self
             .table
@@ -100,10 +115,18 @@ impl Cells {
 
     // Takes the words out, and frees the number.
     fn take_end(&self, right: &mut CellSeat, g: u16, count: u32) -> GroupEnd
-        requires { IsRight self.now g right.old × ((row right.old).progress ≡ Last) × ((row right.old).found / 256 ≡ count) }
+        requires { IsRight self.now g right.old × ((row right.old).progress ≡ Last)
+            × ((row right.old).found / 256 ≡ count) }
         ensures right { IsRight self.now g right.new }
-        ensures row { row right.new ≡ record (row right.old) { progress = Ended; end_error = (row right.new).end_error; end_device_front = (row right.new).end_device_front; end_memory_front = (row right.new).end_memory_front; end_closing = (row right.new).end_closing } }
-        ensures end { result ≡ end_in (row right.new) }
+        ensures row { row right.new
+            ≡ record (row right.old) {
+              progress = Ended;
+              end_error = (row right.new).end_error;
+              end_device_front = (row right.new).end_device_front;
+              end_memory_front = (row right.new).end_memory_front;
+              end_closing = (row right.new).end_closing;
+            } }
+        ensures end { result ≡ end_in_row (row right.new) }
     {
         let words = &self.table.shared;
         let left = 5 * g as usize;

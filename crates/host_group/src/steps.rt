@@ -1,12 +1,16 @@
 //! What each step of a seat tells. These types are for the proofs alone.
-ghost use Rattle.host_group.specs.Views.{view_after_splitting, right_view, joined_view, spent_view};
-ghost use Rattle.host_group.specs.Steps.{Looks, Places, Adds, PutsError, PutsDeviceFront, PutsMemoryFront, Settles, TakesError, TakesDeviceFront, TakesMemoryFront, TakesClosing, Frees};
+ghost use Rattle.host_group.specs.Views.{view_after_splitting, right_view, joined_view};
+ghost use Rattle.host_group.specs.Views.{spent_cell_view};
+ghost use Rattle.host_group.specs.Steps.{Looks, Places, AddsMember, PutsError, PutsDeviceFront};
+ghost use Rattle.host_group.specs.Steps.{PutsMemoryFront, Settles, TakesError, TakesDeviceFront};
+ghost use Rattle.host_group.specs.Steps.{TakesMemoryFront, TakesClosing, Frees};
 ghost use Rattle.std.specs.Prelude.{true, false};
 
 use crate::view::View;
 use atomic_table::{Join, Play, Split};
 
-/// The admitting seat looks whether a number has a closed instance. The step is an exchange that changes nothing, whose second operand is the next member's name.
+/// The admitting seat looks whether a number has a closed instance. The step is an exchange that
+/// changes nothing, whose second operand is the next member's name.
 pub struct Look;
 
 impl Play<(), View> for Look {
@@ -24,14 +28,14 @@ impl Play<(), View> for Place {
 pub struct Add;
 
 impl Play<(), View> for Add {
-    ghost then = { Adds false };
+    ghost then = { AddsMember false };
 }
 
 /// The closing member is added.
 pub struct AddLast;
 
 impl Play<(), View> for AddLast {
-    ghost then = { Adds true };
+    ghost then = { AddsMember true };
 }
 
 /// The least is taken into the error word.
@@ -112,5 +116,5 @@ pub struct Return;
 impl Join<View> for Return {
     ghost both = { joined_view };
 
-    ghost spent = { spent_view };
+    ghost spent = { spent_cell_view };
 }

@@ -1,27 +1,20 @@
 -- One run of steps after another.
 use Rattle.std.proofs.Common.{◌≡◌, ℕ, ◌+◌, ◌≤◌, Bool, true, false, not, ◌&&◌, cond, Result, Ok, Err, List, [], ◌∷◌, ◌++◌, length, map, filter, take, drop, refl, sym, ap, ap₂, subst, ◌∙◌, arith, append_assoc, append-nil, length-append}
+use Rattle.std.specs.Prelude.{is_err}
 use Rattle.std.specs.List.{All}
 use Rattle.std.proofs.lemmas.List.{map-append, take-append-drop}
 use Rattle.std.proofs.lemmas.List.Elements.{All-append, All-nil, filter-append}
 use Rattle.std.proofs.lemmas.List.FromFn.{length-map-range_with_len, map-range_with_len_more, take-map-range_with_len}
-use Rattle.host_block.specs.declared.op.Op.{Op}
-use Rattle.host_block.specs.declared.op.Op.TheVariants.{Read, Write, Trim, Flush}
-use Rattle.host_device.specs.declared.error.StepError.{StepError}
-use Rattle.host_device.specs.declared.error.StepError.TheVariants.{Fault, Oom}
-use Rattle.host_intake.specs.Takings.{under}
-use Rattle.host_model.specs.declared.memory.MemEntry.{MemEntry}
-use Rattle.host_model.specs.declared.memory.MemEvent.{MemEvent}
-use Rattle.host_model.specs.declared.step.Step.{Step}
-use Rattle.host_model.specs.Carrying.{Ask, carries_out, ended, is_step_for}
-use Rattle.host_model.specs.Lists.{is_nil}
-use Rattle.host_model.specs.RecordEntries.{land_for, lift_for}
+use Rattle.host_block.specs.{Op, Read, Write, Trim, Flush}
+use Rattle.host_device.specs.{StepError, Fault, Oom, entries_added, step_made}
+use Rattle.host_intake.specs.{under}
+use Rattle.host_model.specs.{MemEntry, MemEvent, Step, Ask, carries_out, ended, flush_ask, is_step_for, same_op, is_nil, land_for, lift_for, writes_of}
 use Rattle.host_record.specs.declared.request.Request.{Request}
-use Rattle.host_hand.specs.declared.errand.Errand.{Errand}
-use Rattle.host_hand.specs.declared.run.Run.{Run}
-use Rattle.host_hand.specs.Errands.{IsStepFor, ask_at, asks_upto}
-use Rattle.host_hand.specs.Runs.{HasRun, IsRun, IsSpare, moved_by, status_by}
-use Rattle.host_hand.proofs.BlockRuns.{no_moves, no_spare}
-use Rattle.host_hand.proofs.Growing.{grown_after, grown_as, grown_refl, longer_length}
+use Rattle.host_hand.specs.{Errand, Run, IsStepFor, ask_at, errand_asks, asks_upto, flushes_after, HasRun, IsRun, IsSpare, moved_by, status_by}
+use Rattle.host_hand.proofs.BlockRuns.{flush_run, no_moves, no_spare}
+use Rattle.host_log.specs.{HasGrown}
+use Rattle.host_log.proofs.Growing.{grown_after, grown_as, grown_refl}
+use Rattle.host_log.proofs.Places.{longer_length}
 
 -- ---- one run after another
 
@@ -106,7 +99,7 @@ ended_after (a ∷ asks) these (s ∷ steps) those c e = at s.faulted (is_step_f
 
 -- what the steps leave with the buffer
 moved_append : (op : Op) (i : ℕ) (r : Request) (steps those : List Step) → moved_by op i r (steps ++ those) ≡ moved_by op i r steps ++ moved_by op i r those
-moved_append Write i r steps those = map-append (λ (s : Step). lift_for i r s.k s.bytes) steps those
+moved_append Write i r steps those = ap (map (λ (s : Step). lift_for i r s.k s.bytes)) (filter-append (λ (s : Step). same_op s.op Write) steps those) ∙ map-append (λ (s : Step). lift_for i r s.k s.bytes) (writes_of steps) (writes_of those)
 moved_append Read i r steps those = ap (map (λ (s : Step). land_for i r s.k s.bytes)) (filter-append (λ (s : Step). not s.faulted) steps those) ∙ map-append (λ (s : Step). land_for i r s.k s.bytes) (filter (λ (s : Step). not s.faulted) steps) (filter (λ (s : Step). not s.faulted) those)
 moved_append Trim i r steps those = refl
 moved_append Flush i r steps those = refl
@@ -190,3 +183,36 @@ has_stopped e op asks more a x h new s u is p = record {
   buffers = p.buffers;
   front = p.front;
 }
+
+-- ---- the flush after the blocks
+
+pub has_forced : (e : Errand) (op : Op) (a b : Run) (bytes : List ℕ) (h new : List MemEntry) (s t u : List Step) → flushes_after e op ≡ true → a.answer ≡ Ok tt → HasRun e op 0 (asks_upto e op e.request.length) a h new s t
+    → HasGrown (λ (x : Step). x.hand) e.hand e.device_front b.front (entries_added b.answer (step_made e.hand e.session e.index e.request.length Flush 0 bytes)) t u → b.front ≡ length u → HasRun e op 0 (errand_asks e op) b h new s u
+has_forced e Write a b bytes h new s t u forced ok p g front =
+    let n = e.request.length in
+    let le : a.front ≤ b.front = (let f = p.front in let l = longer_length t u g.begins in omega arith) in
+    subst (λ f. HasRun e Write 0 (asks_upto e Write n ++ cond f (flush_ask n ∷ []) []) b h new s u) (sym forced)
+    (has_after e Write n (asks_upto e Write n) (flush_ask n ∷ []) a b tt h new new s t u (sym (upto_length e Write n)) ok le p (record {
+      steps = entries_added b.answer (step_made e.hand e.session e.index n Flush 0 bytes);
+      moves = [];
+      run_is = flush_run e n bytes b.answer;
+      device = g;
+      buffers = grown_refl (λ (x : MemEntry). x.hand) e.hand e.memory_front (length new) new;
+      front = omega arith;
+    }))
+has_forced e Read a b bytes h new s t u forced ok p g front = absurd (cc forced)
+has_forced e Trim a b bytes h new s t u forced ok p g front = absurd (cc forced)
+has_forced e Flush a b bytes h new s t u forced ok p g front = absurd (cc forced)
+
+pub has_unforced : (e : Errand) (op : Op) (a : Run) (h new : List MemEntry) (s u : List Step) → flushes_after e op ≡ false → HasRun e op 0 (asks_upto e op e.request.length) a h new s u → HasRun e op 0 (errand_asks e op) a h new s u
+has_unforced e op a h new s u forced p =
+    let blocks = asks_upto e op e.request.length in
+    subst (λ asks. HasRun e op 0 asks a h new s u) (sym (ap (λ f. blocks ++ cond f (flush_ask e.request.length ∷ []) []) forced ∙ append-nil blocks)) p
+
+-- where a block failed, no flush comes after
+pub has_failed : (e : Errand) (op : Op) (a : Run) (h new : List MemEntry) (s u : List Step) → is_err a.answer ≡ true → HasRun e op 0 (asks_upto e op e.request.length) a h new s u → HasRun e op 0 (errand_asks e op) a h new s u
+has_failed e op a h new s u err p = at a.answer refl err
+  where
+    at : (answer : Result Unit StepError) → a.answer ≡ answer → is_err answer ≡ true → HasRun e op 0 (errand_asks e op) a h new s u
+    at (Ok x) is f = absurd (cc f)
+    at (Err x) is f = has_stopped e op (asks_upto e op e.request.length) (cond (flushes_after e op) (flush_ask e.request.length ∷ []) []) a x h new s u is p

@@ -1,23 +1,15 @@
 -- What one step of a record, made or refused, comes to.
-use Rattle.std.proofs.Common.{◌≡◌, inl, inr, ℕ, ◌+◌, Bool, true, false, not, ◌||◌, ◌&&◌, cond, Result, Ok, Err, List, [], ◌∷◌, ◌++◌, length, map, filter, refl, sym, ap, ap₂, subst, ◌∙◌, arith, append-nil, eq-eqb}
+use Rattle.std.proofs.Common.{◌≡◌, inl, inr, ℕ, ◌+◌, ◌<◌, Bool, true, false, not, ◌||◌, ◌&&◌, cond, Result, Ok, Err, List, [], ◌∷◌, ◌++◌, length, map, filter, refl, sym, ap, ap₂, subst, ◌∙◌, arith, append-nil, eq-eqb}
 use Rattle.std.specs.List.{All, list_any}
 use Rattle.std.proofs.lemmas.List.Elements.{All-nil}
 use Rattle.std.proofs.lemmas.List.Folds.{list_any-append}
-use Rattle.host_block.specs.declared.op.Op.{Op}
-use Rattle.host_block.specs.declared.op.Op.TheVariants.{Read, Write, Trim, Flush}
-use Rattle.host_device.specs.declared.error.StepError.{StepError}
-use Rattle.host_device.specs.declared.error.StepError.TheVariants.{Fault, Oom}
-use Rattle.host_device.specs.Entries.{entries_added, entry_of}
-use Rattle.host_memory.specs.Pins.{is_done_for}
-use Rattle.host_model.specs.declared.memory.MemEvent.{MemEvent}
-use Rattle.host_model.specs.declared.step.Step.{Step}
-use Rattle.host_model.specs.Carrying.{Ask, carries_out, ended, is_step_for, same_op}
-use Rattle.host_model.specs.RecordEntries.{land_for, lift_for}
+use Rattle.host_block.specs.{Op, Read, Write, Trim, Flush}
+use Rattle.host_device.specs.{StepError, Fault, Oom, entries_added, step_made}
+use Rattle.host_memory.specs.{is_done_for}
+use Rattle.host_model.specs.{MemEvent, Step, Ask, carries_out, ended, flush_ask, is_step_for, same_op, land_for, lift_for, writes_of}
 use Rattle.host_record.specs.declared.request.Request.{Request}
-use Rattle.host_hand.specs.declared.errand.Errand.{Errand}
-use Rattle.host_hand.specs.Errands.{IsStepFor}
-use Rattle.host_session.specs.Moves.{lands_of, lifts_of}
-use Rattle.host_hand.specs.Runs.{IsRun, IsSpare, moved_by, status_by}
+use Rattle.host_hand.specs.{Errand, IsStepFor, IsRun, IsSpare, moved_by, status_by}
+use Rattle.host_session.specs.{lands_of, lifts_of}
 use Rattle.host_hand.proofs.StepMade.{all_added}
 
 -- ---- nothing was made
@@ -56,7 +48,7 @@ same_op_self Flush = refl
 
 -- the entry of a step for the record
 abbrev pub made_for : Errand → Ask → List ℕ → Bool → Step
-made_for e ask bytes = entry_of e.hand e.session e.index ask.k ask.op ask.block bytes
+made_for e ask bytes = step_made e.hand e.session e.index ask.k ask.op ask.block bytes
 
 module _ (e : Errand) (ask : Ask) (bytes : List ℕ) where
   asked_for : (b : Bool) → is_step_for ask (made_for e ask bytes b) ≡ true
@@ -87,33 +79,49 @@ module _ (e : Errand) (ask : Ask) (bytes : List ℕ) where
   }
 
 -- a write lifted the page before its step
-pub write_run : (e : Errand) (k block : ℕ) (bytes : List ℕ) (answer : Result Unit StepError)
-    → IsRun e Write k (record { k = k; op = Write; block = block } ∷ []) (entries_added answer (entry_of e.hand e.session e.index k Write block bytes)) (lift_for e.index e.request k bytes ∷ []) answer
-write_run e k block bytes (Ok x) = plain_run e (record { k = k; op = Write; block = block }) bytes (Ok x)
-write_run e k block bytes (Err Fault) = plain_run e (record { k = k; op = Write; block = block }) bytes (Err Fault)
-write_run e k block bytes (Err Oom) =
+pub write_run : (e : Errand) (k block : ℕ) (bytes : List ℕ) (answer : Result Unit StepError) → k < e.request.length
+    → IsRun e Write k (record { k = k; op = Write; block = block } ∷ []) (entries_added answer (step_made e.hand e.session e.index k Write block bytes)) (lift_for e.index e.request k bytes ∷ []) answer
+write_run e k block bytes (Ok x) lt = plain_run e (record { k = k; op = Write; block = block }) bytes (Ok x)
+write_run e k block bytes (Err Fault) lt = plain_run e (record { k = k; op = Write; block = block }) bytes (Err Fault)
+write_run e k block bytes (Err Oom) lt =
     let n : k ≡ k + 0 = omega arith in
     record {
       made = All-nil (IsStepFor e);
       carried = refl;
       answered = refl;
       spare = lift_for e.index e.request k bytes ∷ [];
-      is_spare = inr (bytes, ap (λ (j : ℕ). lift_for e.index e.request j bytes ∷ []) n);
+      is_spare = inr (bytes, ap (λ (j : ℕ). lift_for e.index e.request j bytes ∷ []) n, omega arith);
       moved = refl;
     }
 
+-- a write's flush leaves nothing with the buffer
+pub flush_run : (e : Errand) (k : ℕ) (bytes : List ℕ) (answer : Result Unit StepError) → IsRun e Write k (flush_ask k ∷ []) (entries_added answer (made_for e (flush_ask k) bytes)) [] answer
+flush_run e k bytes answer = record {
+  made = one_made e (flush_ask k) bytes answer;
+  carried = one_carried e (flush_ask k) bytes answer;
+  answered = one_ended e (flush_ask k) bytes answer;
+  spare = [];
+  is_spare = no_spare Write answer (k + length (entries_added answer (made_for e (flush_ask k) bytes))) e.index e.request;
+  moved = none answer;
+}
+  where
+    none : (a : Result Unit StepError) → [] ≡ moved_by Write e.index e.request (entries_added a (made_for e (flush_ask k) bytes)) ++ []
+    none (Ok x) = refl
+    none (Err Fault) = refl
+    none (Err Oom) = refl
+
 -- a read landed what its step gave
 pub landed_run : (e : Errand) (k block : ℕ) (bytes : List ℕ) (answer : Result Unit StepError) (x : Unit) → answer ≡ Ok x
-    → IsRun e Read k (record { k = k; op = Read; block = block } ∷ []) (entries_added answer (entry_of e.hand e.session e.index k Read block bytes)) (land_for e.index e.request k bytes ∷ []) answer
-landed_run e k block bytes answer x is = subst (λ a. IsRun e Read k (record { k = k; op = Read; block = block } ∷ []) (entries_added a (entry_of e.hand e.session e.index k Read block bytes)) (land_for e.index e.request k bytes ∷ []) a) (sym is)
+    → IsRun e Read k (record { k = k; op = Read; block = block } ∷ []) (entries_added answer (step_made e.hand e.session e.index k Read block bytes)) (land_for e.index e.request k bytes ∷ []) answer
+landed_run e k block bytes answer x is = subst (λ a. IsRun e Read k (record { k = k; op = Read; block = block } ∷ []) (entries_added a (step_made e.hand e.session e.index k Read block bytes)) (land_for e.index e.request k bytes ∷ []) a) (sym is)
     (plain_run e (record { k = k; op = Read; block = block }) bytes (Ok x))
 
 -- a read that failed landed nothing
 pub failed_run : (e : Errand) (k block : ℕ) (bytes : List ℕ) (answer : Result Unit StepError) (x : StepError) → answer ≡ Err x
-    → IsRun e Read k (record { k = k; op = Read; block = block } ∷ []) (entries_added answer (entry_of e.hand e.session e.index k Read block bytes)) [] answer
-failed_run e k block bytes answer x is = subst (λ a. IsRun e Read k (record { k = k; op = Read; block = block } ∷ []) (entries_added a (entry_of e.hand e.session e.index k Read block bytes)) [] a) (sym is) (at x)
+    → IsRun e Read k (record { k = k; op = Read; block = block } ∷ []) (entries_added answer (step_made e.hand e.session e.index k Read block bytes)) [] answer
+failed_run e k block bytes answer x is = subst (λ a. IsRun e Read k (record { k = k; op = Read; block = block } ∷ []) (entries_added a (step_made e.hand e.session e.index k Read block bytes)) [] a) (sym is) (at x)
   where
-    at : (y : StepError) → IsRun e Read k (record { k = k; op = Read; block = block } ∷ []) (entries_added (Err y) (entry_of e.hand e.session e.index k Read block bytes)) [] (Err y)
+    at : (y : StepError) → IsRun e Read k (record { k = k; op = Read; block = block } ∷ []) (entries_added (Err y) (step_made e.hand e.session e.index k Read block bytes)) [] (Err y)
     at Fault = plain_run e (record { k = k; op = Read; block = block }) bytes (Err Fault)
     at Oom = plain_run e (record { k = k; op = Read; block = block }) bytes (Err Oom)
 
@@ -121,7 +129,11 @@ failed_run e k block bytes answer x is = subst (λ a. IsRun e Read k (record { k
 
 lifts_keep : (i j : ℕ) (r : Request) (steps : List Step) → list_any (is_done_for i) (lifts_of j r steps) ≡ false
 lifts_keep i j r [] = refl
-lifts_keep i j r (s ∷ steps) = lifts_keep i j r steps
+lifts_keep i j r (s ∷ steps) = at (same_op s.op Write) (lifts_keep i j r steps)
+  where
+    at : (b : Bool) → list_any (is_done_for i) (lifts_of j r steps) ≡ false → list_any (is_done_for i) (map (λ step. lift_for j r step.k step.bytes) (cond b (s ∷ writes_of steps) (writes_of steps))) ≡ false
+    at true rest = rest
+    at false rest = rest
 
 lands_keep : (i j : ℕ) (r : Request) (steps : List Step) → list_any (is_done_for i) (lands_of j r steps) ≡ false
 lands_keep i j r [] = refl
@@ -144,7 +156,7 @@ spare_keep : (op : Op) (answer : Result Unit StepError) (k i : ℕ) (r : Request
 spare_keep Write (Ok x) k i r spare is = nil_keep i spare is
 spare_keep Write (Err Fault) k i r spare is = nil_keep i spare is
 spare_keep Write (Err Oom) k i r spare (inl is) = nil_keep i spare is
-spare_keep Write (Err Oom) k i r spare (inr (bytes, is)) = ap (list_any (is_done_for i)) is
+spare_keep Write (Err Oom) k i r spare (inr (bytes, is, lt)) = ap (list_any (is_done_for i)) is
 spare_keep Read answer k i r spare is = nil_keep i spare is
 spare_keep Trim answer k i r spare is = nil_keep i spare is
 spare_keep Flush answer k i r spare is = nil_keep i spare is

@@ -2,22 +2,13 @@
 use Rattle.std.proofs.Common.{◌≡◌, ℕ, ◌+◌, ◌≤◌, ◌<◌, true, false, Result, Ok, Err, List, [], ◌∷◌, drop, Option, refl, sym, subst, ◌∙◌, arith}
 use Rattle.std.specs.Prelude.{is_err}
 use Rattle.atomic_table.specs.Seated.{TableId}
-use Rattle.host_block.specs.declared.op.Op.{Op}
-use Rattle.host_block.specs.declared.op.Op.TheVariants.{Read, Write, Trim, Flush}
-use Rattle.host_device.specs.declared.error.StepError.{StepError}
-use Rattle.host_intake.specs.State.{MemorySeat}
-use Rattle.host_model.specs.declared.memory.MemEntry.{MemEntry}
-use Rattle.host_model.specs.declared.step.Step.{Step}
-use Rattle.host_record.specs.declared.opcode.Opcode.{Opcode}
-use Rattle.host_turn.specs.declared.seat.BookSeat.{BookSeat}
-use Rattle.host_turn.specs.Seats.{IsOutside, IsSameSeat}
-use Rattle.host_hand.specs.declared.errand.Errand.{Errand}
-use Rattle.host_hand.specs.declared.run.Run.{Run}
-use Rattle.host_hand.specs.Blocks.{HoldsFor}
-use Rattle.host_hand.specs.Buffers.{IsAtBuffers, IsHeld, IsOfPool}
-use Rattle.host_hand.specs.Errands.{ask_at, asks_upto}
-use Rattle.host_hand.specs.Runs.{HasRun}
-use Rattle.host_hand.specs.Works.{IsTransferBy}
+use Rattle.host_block.specs.{Op, Read, Write, Trim, Flush}
+use Rattle.host_device.specs.{StepError}
+use Rattle.host_intake.specs.{MemorySeat}
+use Rattle.host_model.specs.{MemEntry, Step}
+use Rattle.host_record.specs.{Opcode}
+use Rattle.host_turn.specs.{BookSeat, IsOutside, IsSameSeat}
+use Rattle.host_hand.specs.{Errand, Run, HoldsFor, IsAtBuffers, IsHeld, IsOfPool, ask_at, asks_upto, HasRun, IsTransferBy}
 use Rattle.host_hand.proofs.BlockAfter.{has_after, has_stopped, upto_length, upto_more, upto_rest}
 
 module _ {S E F : Type 0} where

@@ -1,34 +1,21 @@
 -- One block of a record, in a turn of the buffers and after it.
-use Rattle.std.proofs.Common.{◌≡◌, ℕ, ◌+◌, ◌≤◌, Result, Ok, Err, List, [], ◌∷◌, ◌++◌, length, refl, sym, ap, subst, ◌∙◌, arith, append-nil}
+use Rattle.std.proofs.Common.{◌≡◌, ℕ, ◌+◌, ◌<◌, ◌≤◌, Result, Ok, Err, List, [], ◌∷◌, ◌++◌, length, refl, sym, ap, subst, ◌∙◌, arith, append-nil}
 use Rattle.std.specs.Prelude.{IfOk, OnErr}
-use Rattle.host_block.specs.declared.op.Op.{Op}
-use Rattle.host_block.specs.declared.op.Op.TheVariants.{Read, Write, Trim}
-use Rattle.host_device.specs.declared.error.StepError.{StepError}
-use Rattle.host_device.specs.declared.error.StepError.TheVariants.{Oom}
-use Rattle.host_device.specs.Entries.{entries_added, entry_of}
-use Rattle.host_intake.specs.Takings.{under}
-use Rattle.host_model.specs.declared.memory.MemEntry.{MemEntry}
-use Rattle.host_model.specs.declared.memory.MemEvent.TheVariants.{Lift, Land}
-use Rattle.host_model.specs.declared.step.Step.{Step}
-use Rattle.host_model.specs.Carrying.{Ask}
-use Rattle.host_model.specs.RecordEntries.{lift_for}
-use Rattle.host_turn.specs.History.{Continues}
-use Rattle.host_hand.specs.declared.errand.Errand.{Errand}
-use Rattle.host_hand.specs.declared.run.Run.{Run}
-use Rattle.host_hand.specs.Blocks.{HasRunInTurn}
-use Rattle.host_hand.specs.Buffers.{IsHeld}
-use Rattle.host_hand.specs.Errands.{ask_at}
-use Rattle.host_hand.specs.Growth.{HasGrown}
-use Rattle.host_hand.specs.Runs.{HasRun}
+use Rattle.host_block.specs.{Op, Read, Write, Trim}
+use Rattle.host_device.specs.{StepError, Oom, entries_added, step_made}
+use Rattle.host_intake.specs.{under}
+use Rattle.host_model.specs.{MemEntry, Lift, Land, Step, Ask, lift_for}
+use Rattle.host_log.specs.{Continues, HasGrown}
+use Rattle.host_hand.specs.{Errand, Run, HasRunInTurn, IsHeld, ask_at, HasRun}
 use Rattle.host_hand.proofs.BlockRuns.{failed_run, landed_run, plain_run, refused_run, run_keeps, write_run}
-use Rattle.host_hand.proofs.Growing.{grown_nothing, grown_refl, grown_turn}
+use Rattle.host_log.proofs.Growing.{grown_nothing, grown_refl, grown_turn}
 use Rattle.host_hand.proofs.HoldPins.{all_under, held_grown, held_still}
 
 -- the step was made on the record's block
 pub on_block : (e : Errand) (k block : ℕ) (op : Op) (bytes : List ℕ) (answer : Result Unit StepError) (front : ℕ) (s u : List Step) → block ≡ e.part.first + e.request.dev_offset + k
-    → HasGrown (λ (y : Step). y.hand) e.hand e.device_front front (entries_added answer (entry_of e.hand e.session e.index k op block bytes)) s u
-    → HasGrown (λ (y : Step). y.hand) e.hand e.device_front front (entries_added answer (entry_of e.hand e.session e.index k op (e.part.first + e.request.dev_offset + k) bytes)) s u
-on_block e k block op bytes answer front s u is g = subst (λ b. HasGrown (λ (y : Step). y.hand) e.hand e.device_front front (entries_added answer (entry_of e.hand e.session e.index k op b bytes)) s u) is g
+    → HasGrown (λ (y : Step). y.hand) e.hand e.device_front front (entries_added answer (step_made e.hand e.session e.index k op block bytes)) s u
+    → HasGrown (λ (y : Step). y.hand) e.hand e.device_front front (entries_added answer (step_made e.hand e.session e.index k op (e.part.first + e.request.dev_offset + k) bytes)) s u
+on_block e k block op bytes answer front s u is g = subst (λ b. HasGrown (λ (y : Step). y.hand) e.hand e.device_front front (entries_added answer (step_made e.hand e.session e.index k op b bytes)) s u) is g
 
 -- ---- a lift
 
@@ -69,10 +56,10 @@ refused_in_turn e op k ask run front old new s is le same = record {
 }
 
 pub landed_in_turn : (e : Errand) (k page : ℕ) (run : Run) (x : Unit) (bytes : List ℕ) (old mid new : List MemEntry) (s u : List Step) → run.answer ≡ Ok x
-    → HasGrown (λ (y : Step). y.hand) e.hand e.device_front run.front (entries_added run.answer (entry_of e.hand e.session e.index k Read (e.part.first + e.request.dev_offset + k) bytes)) s u → run.front ≡ length u
+    → HasGrown (λ (y : Step). y.hand) e.hand e.device_front run.front (entries_added run.answer (step_made e.hand e.session e.index k Read (e.part.first + e.request.dev_offset + k) bytes)) s u → run.front ≡ length u
     → page ≡ e.request.vmo_offset + k → mid ≡ old → new ≡ mid ++ record { hand = e.hand; what = Land e.index k e.request.vmoid page bytes } ∷ [] → HasRunInTurn e Read k (ask_at e Read k ∷ []) run old new s u
 landed_in_turn e k page run x bytes old mid new s u ok g front at same added = record {
-  steps = entries_added run.answer (entry_of e.hand e.session e.index k Read (e.part.first + e.request.dev_offset + k) bytes);
+  steps = entries_added run.answer (step_made e.hand e.session e.index k Read (e.part.first + e.request.dev_offset + k) bytes);
   moves = Land e.index k e.request.vmoid (e.request.vmo_offset + k) bytes ∷ [];
   run_is = landed_run e k (e.part.first + e.request.dev_offset + k) bytes run.answer x ok;
   device = g;
@@ -81,10 +68,10 @@ landed_in_turn e k page run x bytes old mid new s u ok g front at same added = r
 }
 
 pub failed_in_turn : (e : Errand) (k : ℕ) (run : Run) (x : StepError) (bytes : List ℕ) (old new : List MemEntry) (s u : List Step) → run.answer ≡ Err x
-    → HasGrown (λ (y : Step). y.hand) e.hand e.device_front run.front (entries_added run.answer (entry_of e.hand e.session e.index k Read (e.part.first + e.request.dev_offset + k) bytes)) s u → run.front ≡ length u
+    → HasGrown (λ (y : Step). y.hand) e.hand e.device_front run.front (entries_added run.answer (step_made e.hand e.session e.index k Read (e.part.first + e.request.dev_offset + k) bytes)) s u → run.front ≡ length u
     → new ≡ old → HasRunInTurn e Read k (ask_at e Read k ∷ []) run old new s u
 failed_in_turn e k run x bytes old new s u is g front same = record {
-  steps = entries_added run.answer (entry_of e.hand e.session e.index k Read (e.part.first + e.request.dev_offset + k) bytes);
+  steps = entries_added run.answer (step_made e.hand e.session e.index k Read (e.part.first + e.request.dev_offset + k) bytes);
   moves = [];
   run_is = failed_run e k (e.part.first + e.request.dev_offset + k) bytes run.answer x is;
   device = g;
@@ -122,21 +109,21 @@ refused_before e op k ask run front old new s is le g = record {
 }
 
 module _ (e : Errand) (k : ℕ) (run : Run) (s u : List Step) (front : run.front ≡ length u) where
-  pub written_before : (piece : List ℕ) (old new : List MemEntry) → HasGrown (λ (x : MemEntry). x.hand) e.hand e.memory_front (length new) (under e.hand (lift_for e.index e.request k piece ∷ [])) old new
-      → HasGrown (λ (y : Step). y.hand) e.hand e.device_front run.front (entries_added run.answer (entry_of e.hand e.session e.index k Write (e.part.first + e.request.dev_offset + k) piece)) s u → HasRun e Write k (ask_at e Write k ∷ []) run old new s u
-  written_before piece old new lifted g = record {
-    steps = entries_added run.answer (entry_of e.hand e.session e.index k Write (e.part.first + e.request.dev_offset + k) piece);
+  pub written_before : (piece : List ℕ) (old new : List MemEntry) → k < e.request.length → HasGrown (λ (x : MemEntry). x.hand) e.hand e.memory_front (length new) (under e.hand (lift_for e.index e.request k piece ∷ [])) old new
+      → HasGrown (λ (y : Step). y.hand) e.hand e.device_front run.front (entries_added run.answer (step_made e.hand e.session e.index k Write (e.part.first + e.request.dev_offset + k) piece)) s u → HasRun e Write k (ask_at e Write k ∷ []) run old new s u
+  written_before piece old new lt lifted g = record {
+    steps = entries_added run.answer (step_made e.hand e.session e.index k Write (e.part.first + e.request.dev_offset + k) piece);
     moves = lift_for e.index e.request k piece ∷ [];
-    run_is = write_run e k (e.part.first + e.request.dev_offset + k) piece run.answer;
+    run_is = write_run e k (e.part.first + e.request.dev_offset + k) piece run.answer lt;
     device = g;
     buffers = lifted;
     front = omega arith;
   }
 
-  pub trimmed : (bytes : List ℕ) (h : List MemEntry) → HasGrown (λ (y : Step). y.hand) e.hand e.device_front run.front (entries_added run.answer (entry_of e.hand e.session e.index k Trim (e.part.first + e.request.dev_offset + k) bytes)) s u
+  pub trimmed : (bytes : List ℕ) (h : List MemEntry) → HasGrown (λ (y : Step). y.hand) e.hand e.device_front run.front (entries_added run.answer (step_made e.hand e.session e.index k Trim (e.part.first + e.request.dev_offset + k) bytes)) s u
       → HasRun e Trim k (ask_at e Trim k ∷ []) run h h s u
   trimmed bytes h g = record {
-    steps = entries_added run.answer (entry_of e.hand e.session e.index k Trim (e.part.first + e.request.dev_offset + k) bytes);
+    steps = entries_added run.answer (step_made e.hand e.session e.index k Trim (e.part.first + e.request.dev_offset + k) bytes);
     moves = [];
     run_is = plain_run e (ask_at e Trim k) bytes run.answer;
     device = g;

@@ -1,48 +1,30 @@
 -- A record was carried out.
-use Rattle.std.proofs.Common.{◌≡◌, ◌⊎◌, inl, inr, ℕ, ◌+◌, ◌≤◌, ◌==◌, Bool, true, false, cond, Ok, List, [], ◌∷◌, ◌++◌, length, Option, Some, None, refl, sym, ap, ap₂, subst, ◌∙◌, arith, append_assoc, append-nil}
+use Rattle.std.proofs.Common.{◌≡◌, ◌⊎◌, inl, inr, ℕ, ◌+◌, ◌≤◌, ◌==◌, Bool, true, false, cond, List, [], ◌∷◌, ◌++◌, length, Option, Some, None, refl, sym, ap, ap₂, subst, ◌∙◌, arith, append_assoc, append-nil}
 use Rattle.std.specs.Prelude.{slice_get, sum}
 use Rattle.std.specs.List.{All, cons_option}
 use Rattle.std.proofs.lemmas.List.Elements.{All-nil, All-cons, All-head, All-tail, All-append}
 use Rattle.std.proofs.lemmas.Option.{slice_get_within}
 use Rattle.atomic_table.specs.Seated.{TableId}
-use Rattle.host_block.specs.declared.op.Op.{Op}
-use Rattle.host_block.specs.declared.op.Op.TheVariants.{Read, Write, Trim, Flush}
-use Rattle.host_frames.specs.Seats.{SeenPages}
-use Rattle.host_intake.specs.declared.entry.RecordEnd.{RecordEnd}
-use Rattle.host_intake.specs.Takings.{under}
-use Rattle.host_intake.proofs.Judging.{get_append}
-use Rattle.host_model.specs.declared.memory.MemEntry.{MemEntry}
-use Rattle.host_model.specs.declared.memory.MemEvent.{MemEvent}
-use Rattle.host_model.specs.declared.memory.MemEvent.TheVariants.{Attach, Fill, Show, Pin, Lift, Land, Done, Release}
+use Rattle.host_block.specs.{Op, Read, Write, Trim, Flush}
+use Rattle.host_frames.specs.{SeenPages}
+use Rattle.host_intake.specs.{RecordEnd, under}
+use Rattle.host_model.specs.{MemEntry, MemEvent, Attach, Fill, Show, Pin, Lift, Land, Done, Release, Step, Accepted, asked_by, carries_out, ended, map_after, map_with_before}
 use Rattle.host_model.specs.declared.memory.MemEvent.TheVariants as mem
-use Rattle.host_model.specs.declared.step.Step.{Step}
-use Rattle.host_model.specs.declared.verdict.Verdict.TheVariants.{Accepted}
-use Rattle.host_model.specs.Carrying.{asked_by, carries_out, ended}
-use Rattle.host_model.specs.Lists.{map_after, map_with_before}
-use Rattle.host_record.specs.declared.opcode.Opcode.{Opcode}
+use Rattle.host_record.specs.{Opcode, opcode}
 use Rattle.host_record.specs.declared.opcode.Opcode.TheVariants as opcode
 use Rattle.host_record.specs.declared.status.Status.{Status}
 use Rattle.host_record.specs.declared.status.Status.TheVariants as status
-use Rattle.host_record.specs.Command.{opcode}
-use Rattle.host_turn.specs.History.{Continues, entries_of}
-use Rattle.host_turn.proofs.Histories.{prefix_refl}
-use Rattle.host_hand.specs.declared.errand.Errand.{Errand}
-use Rattle.host_hand.specs.declared.run.Run.{Run}
-use Rattle.host_hand.specs.declared.work.Work.{Work}
+use Rattle.host_log.specs.{Continues, entries_of, EachOwn, HasGrown, IsReached}
+use Rattle.host_log.proofs.Histories.{prefix_refl}
+use Rattle.host_hand.specs.{Errand, Run, Work, HasLetGo, pages_freed, release_of, IsStepFor, errand_asks, asks_upto, pages_by, pages_released_in, released_by, IsClosedBefore, HasRun, IsRun, status_by, HasCarried, IsMoveFor, IsOutcome, IsPastBuffers, IsTransferBy, work_verdict, work_by}
 use Rattle.host_hand.specs.declared.work.Work.TheVariants as work
-use Rattle.host_hand.specs.Buffers.{HasLetGo, pages_freed, release_of}
-use Rattle.host_hand.specs.Errands.{IsStepFor, asks_upto}
-use Rattle.host_hand.specs.Frames.{pages_by, pages_in, released_by}
-use Rattle.host_hand.specs.Growth.{EachOwn, HasGrown, IsReached}
-use Rattle.host_session.specs.Moves.{moves_by}
-use Rattle.host_hand.specs.Records.{IsClosedBefore}
-use Rattle.host_hand.specs.Runs.{HasRun, IsRun, status_by}
-use Rattle.host_hand.specs.Works.{HasCarried, IsMoveFor, IsOutcome, IsPastBuffers, IsTransferBy, verdict_of, work_by}
+use Rattle.host_session.specs.{moves_by}
 use Rattle.host_hand.proofs.BlockAfter.{under_append}
 use Rattle.host_hand.proofs.CarryMoves.{done_named, named_under, no_release, read_moves, run_named, trim_moves, write_moves}
 use Rattle.host_hand.proofs.Entered.{map_with_before_append}
 use Rattle.host_hand.proofs.Framing.{released_still}
-use Rattle.host_hand.proofs.Growing.{grown_after, grown_as, grown_continues, grown_nothing, grown_refl, longer_length, not_between, own_place, own_rest}
+use Rattle.host_log.proofs.Growing.{grown_after, grown_as, grown_continues, grown_nothing, grown_refl, not_between, own_place, own_rest}
+use Rattle.host_log.proofs.Places.{longer_length, get_append}
 
 -- ---- nothing was done to buffers
 
@@ -56,7 +38,7 @@ module _ (n : ℕ) (old new : List MemEntry) (c : Continues (λ (x : MemEntry). 
 -- ---- entries that release nothing
 
 module _ (i n : ℕ) where
-  keep_pages : (before : List MemEntry) (x : MemEntry) (what : MemEvent) → x.what ≡ what → IsMoveFor i what → pages_in before what ≡ None
+  keep_pages : (before : List MemEntry) (x : MemEntry) (what : MemEvent) → x.what ≡ what → IsMoveFor i what → pages_released_in before what ≡ None
   keep_pages before x (Attach id pages from) is m = refl
   keep_pages before x (Fill id block count byte) is m = refl
   keep_pages before x (Show id block count) is m = refl
@@ -73,7 +55,7 @@ module _ (i n : ℕ) where
     where
       at : (b : Bool) → All (λ (y : MemEntry). IsMoveFor i y.what) (cond b (x ∷ entries_of (λ (y : MemEntry). y.hand) n rest) (entries_of (λ (y : MemEntry). y.hand) n rest))
           → (All (λ (y : MemEntry). IsMoveFor i y.what) (entries_of (λ (y : MemEntry). y.hand) n rest) → map_after (pages_by n) (before ++ x ∷ []) rest ≡ [])
-          → cons_option (cond b (pages_in before x.what) None) (map_after (pages_by n) (before ++ x ∷ []) rest) ≡ []
+          → cons_option (cond b (pages_released_in before x.what) None) (map_after (pages_by n) (before ++ x ∷ []) rest) ≡ []
       at true all next = ap₂ cons_option (keep_pages before x x.what refl (All-head (λ (y : MemEntry). IsMoveFor i y.what) x (entries_of (λ (y : MemEntry). y.hand) n rest) all)) (next (All-tail (λ (y : MemEntry). IsMoveFor i y.what) x (entries_of (λ (y : MemEntry). y.hand) n rest) all))
       at false all next = next all
 
@@ -85,8 +67,8 @@ module _ (i n : ℕ) where
 
 -- ---- a read or a write
 
-asked_is : (e : Errand) (op : Op) → IsTransferBy (opcode e.request) op → asked_by (opcode e.request) e.part e.request ≡ asks_upto e op e.request.length
-asked_is e Read kind = ap (λ o. asked_by o e.part e.request) kind
+asked_is : (e : Errand) (op : Op) → IsTransferBy (opcode e.request) op → asked_by (opcode e.request) e.part e.request ≡ errand_asks e op
+asked_is e Read kind = ap (λ o. asked_by o e.part e.request) kind ∙ sym (append-nil (asks_upto e Read e.request.length))
 asked_is e Write kind = ap (λ o. asked_by o e.part e.request) kind
 asked_is e Trim kind = absurd kind
 asked_is e Flush kind = absurd kind
@@ -96,7 +78,7 @@ module _ (e : Errand) (pool : TableId × ℕ) (run : Run) (freed : Option (ℕ �
   ending = record { outcome = status_by run.answer; device_front = run.front; memory_front = front }
 
   -- by its end, its steps and what was done to its buffer
-  gone_carried : (w : Work) (op : Op) → verdict_of w ≡ Accepted → IsPastBuffers w ending new → asked_by (opcode e.request) e.part e.request ≡ asks_upto e op e.request.length → (r : HasRun e op 0 (asks_upto e op e.request.length) run h mid s u)
+  gone_carried : (w : Work) (op : Op) → work_verdict w ≡ Accepted → IsPastBuffers w ending new → asked_by (opcode e.request) e.part e.request ≡ errand_asks e op → (r : HasRun e op 0 (errand_asks e op) run h mid s u)
       → r.moves ++ Done e.index e.request.vmoid ∷ [] ≡ moves_by (opcode e.request) (status_by run.answer) e.index e.request r.steps (r.moves ++ Done e.index e.request.vmoid ∷ [])
       → HasLetGo e pool front mid new freed → HasCarried e w pool (record { end = ending; freed = freed }) h new s u
   gone_carried w op verdict past asks r moved gone = record {
@@ -122,7 +104,7 @@ module _ (e : Errand) (pool : TableId × ℕ) (run : Run) (freed : Option (ℕ �
   }
     where
       named : All (IsMoveFor e.index) r.moves
-      named = run_named e op 0 (asks_upto e op e.request.length) r.steps r.moves run.answer r.run_is
+      named = run_named e op 0 (errand_asks e op) r.steps r.moves run.answer r.run_is
 
       unreleased : (p : ℕ) (x : MemEntry) → length h ≤ p → (slice_get h p ≡ Some x) ⊎ ((length h ≤ p) × IsMoveFor e.index x.what) → IsClosedBefore new p x
       unreleased p x from (inl there) = absurd (let w = slice_get_within h p x there in omega arith)
@@ -132,19 +114,19 @@ module _ (e : Errand) (pool : TableId × ℕ) (run : Run) (freed : Option (ℕ �
       closed p x at by from (inl there) = unreleased p x from (own_place (λ (y : MemEntry). y.hand) e.hand (λ (y : MemEntry). IsMoveFor e.index y.what) (under e.hand r.moves) h mid p x r.buffers.begins r.buffers.own (named_under e.index e.hand r.moves named) there by)
       closed p x at by from (inr (m, is, there)) = gone.closers p x at by (omega arith)
 
-  pub transfer_carried : (op : Op) → IsTransferBy (opcode e.request) op → HasRun e op 0 (asks_upto e op e.request.length) run h mid s u → HasLetGo e pool front mid new freed
+  pub transfer_carried : (op : Op) → IsTransferBy (opcode e.request) op → HasRun e op 0 (errand_asks e op) run h mid s u → HasLetGo e pool front mid new freed
       → HasCarried e (work_by op) pool (record { end = ending; freed = freed }) h new s u
   transfer_carried Read kind r gone = gone_carried work.Read Read refl gone.front_is (asked_is e Read kind) r
-      (subst (λ o. r.moves ++ Done e.index e.request.vmoid ∷ [] ≡ moves_by o (status_by run.answer) e.index e.request r.steps (r.moves ++ Done e.index e.request.vmoid ∷ [])) (sym kind) (read_moves e 0 (asks_upto e Read e.request.length) r.steps r.moves run.answer r.run_is)) gone
+      (subst (λ o. r.moves ++ Done e.index e.request.vmoid ∷ [] ≡ moves_by o (status_by run.answer) e.index e.request r.steps (r.moves ++ Done e.index e.request.vmoid ∷ [])) (sym kind) (read_moves e 0 (errand_asks e Read) r.steps r.moves run.answer r.run_is)) gone
   transfer_carried Write kind r gone = gone_carried work.Write Write refl gone.front_is (asked_is e Write kind) r
-      (subst (λ o. r.moves ++ Done e.index e.request.vmoid ∷ [] ≡ moves_by o (status_by run.answer) e.index e.request r.steps (r.moves ++ Done e.index e.request.vmoid ∷ [])) (sym kind) (write_moves e e.request.length r.steps r.moves run.answer r.run_is)) gone
+      (subst (λ o. r.moves ++ Done e.index e.request.vmoid ∷ [] ≡ moves_by o (status_by run.answer) e.index e.request r.steps (r.moves ++ Done e.index e.request.vmoid ∷ [])) (sym kind) (write_moves e r.steps r.moves run.answer r.run_is)) gone
   transfer_carried Trim kind r gone = absurd kind
   transfer_carried Flush kind r gone = absurd kind
 
 -- ---- a record that does nothing to buffers
 
 module _ (e : Errand) (pool : TableId × ℕ) (h new : List MemEntry) (s u : List Step) (c : Continues (λ (x : MemEntry). x.hand) e.hand h new) where
-  pub bare_carried : (w : Work) (end : RecordEnd) (steps : List Step) → IsOutcome e (verdict_of w) end steps [] → HasGrown (λ (x : Step). x.hand) e.hand e.device_front end.device_front steps s u → IsPastBuffers w end new
+  pub bare_carried : (w : Work) (end : RecordEnd) (steps : List Step) → IsOutcome e (work_verdict w) end steps [] → HasGrown (λ (x : Step). x.hand) e.hand e.device_front end.device_front steps s u → IsPastBuffers w end new
       → IsReached end.device_front u → IsReached end.memory_front new → HasCarried e w pool (record { end = end; freed = None }) h new s u
   bare_carried w end steps outcome device past device_reached memory_reached = record {
     steps = steps;

@@ -9,23 +9,16 @@ use Rattle.std.proofs.lemmas.List.Elements.{All-nil, All-cons, All-head, All-tai
 use Rattle.std.proofs.lemmas.Option.{slice_get_within}
 use mathlib.Core.List.{IsPrefix}
 use Rattle.host_block.specs.declared.range.Range.{Range}
-use Rattle.host_model.specs.declared.memory.MemEntry.{MemEntry}
-use Rattle.host_model.specs.declared.memory.MemEvent.{MemEvent}
-use Rattle.host_model.specs.declared.memory.MemEvent.TheVariants.{Attach, Fill, Show, Pin, Lift, Land, Done, Release}
+use Rattle.host_model.specs.{MemEntry, MemEvent, Attach, Fill, Show, Pin, Lift, Land, Done, Release, Step, carries_out, outcome_of, record_entry, index_of}
 use Rattle.host_model.specs.declared.memory.MemEvent.TheVariants as mem
-use Rattle.host_model.specs.declared.step.Step.{Step}
-use Rattle.host_model.specs.Carrying.{carries_out, outcome_of}
-use Rattle.host_model.specs.RecordEntries.{entry_of, index_of}
-use Rattle.host_memory.specs.Held.{closer_of}
-use Rattle.host_memory.specs.State.{events}
-use Rattle.host_turn.specs.History.{entries_of}
-use Rattle.host_intake.specs.declared.entry.IntakeEntry.{IntakeEntry}
-use Rattle.host_intake.specs.Entries.{Landing, Taking, request_in, takings}
-use Rattle.host_hand.specs.Growth.{HasGrown}
-use Rattle.host_session.specs.Moves.{moves_for, moves_owed}
-use Rattle.host_hand.specs.Records.{HasClosed, HasEnded, HasReleased, IsClosedBefore, IsEnding, asks_in, steps_for}
+use Rattle.host_memory.specs.{closer_of, events}
+use Rattle.host_log.specs.{entries_of, HasGrown}
+use Rattle.host_intake.specs.{IntakeEntry, Landing, Taking, request_in, takings}
+use Rattle.host_session.specs.{moves_for, moves_owed}
+use Rattle.host_hand.specs.{HasClosedBuffer, HasEnded, HasReleasedBuffer, IsClosedBefore, IsEndingRecord, asks_in, steps_for}
 use Rattle.host_hand.proofs.Entered.{taken_longer, taking_longer}
-use Rattle.host_hand.proofs.Growing.{longer_length, own_grown, stands_longer}
+use Rattle.host_log.proofs.Growing.{own_grown}
+use Rattle.host_log.proofs.Places.{longer_length, stands_longer}
 
 pub all_map : {A : Type 0} (P Q : A → Type 0) (xs : List A) → ((x : A) → P x → Q x) → All P xs → All Q xs
 all_map P Q [] f h = All-nil Q
@@ -59,12 +52,12 @@ steps_of_this s i (step ∷ steps) all =
 abbrev pub IsOf : ℕ → MemEntry → Type 0
 IsOf i x = (index_of x.what ≡ Some i) ⊎ (index_of x.what ≡ None)
 
-pub moves_added : (n i front stop : ℕ) (added old new : List MemEntry) → HasGrown (λ e. e.hand) n front stop added old new → moves_for n i new ≡ moves_for n i old ++ filter_map (entry_of i) (events added)
+pub moves_added : (n i front stop : ℕ) (added old new : List MemEntry) → HasGrown (λ e. e.hand) n front stop added old new → moves_for n i new ≡ moves_for n i old ++ filter_map (record_entry i) (events added)
 moves_added n i front stop added old new g =
-    ap (λ l. filter_map (entry_of i) (events l)) g.own ∙ (ap (filter_map (entry_of i)) (map-append (λ (e : MemEntry). e.what) (entries_of (λ e. e.hand) n old) added) ∙ filter_map-append (entry_of i) (events (entries_of (λ e. e.hand) n old)) (events added))
+    ap (λ l. filter_map (record_entry i) (events l)) g.own ∙ (ap (filter_map (record_entry i)) (map-append (λ (e : MemEntry). e.what) (entries_of (λ e. e.hand) n old) added) ∙ filter_map-append (record_entry i) (events (entries_of (λ e. e.hand) n old)) (events added))
 
 -- an entry for another record is none of this one
-pub entry_other : (i : ℕ) (m : MemEvent) → (index_of m ≡ Some i → ⊥) → entry_of i m ≡ None
+pub entry_other : (i : ℕ) (m : MemEvent) → (index_of m ≡ Some i → ⊥) → record_entry i m ≡ None
 entry_other i (Attach id pages from) but = refl
 entry_other i (Fill id block count byte) but = refl
 entry_other i (Show id block count) but = refl
@@ -79,10 +72,10 @@ is_of_other : (i j : ℕ) (o : Option ℕ) → i ≢ j → (o ≡ Some j) ⊎ (o
 is_of_other i j o ne (inl e) same = ne (cc (e, same))
 is_of_other i j o ne (inr e) same = cc (e, same)
 
-pub moves_of_other : (i j : ℕ) (entries : List MemEntry) → i ≢ j → All (IsOf j) entries → filter_map (entry_of i) (events entries) ≡ []
+pub moves_of_other : (i j : ℕ) (entries : List MemEntry) → i ≢ j → All (IsOf j) entries → filter_map (record_entry i) (events entries) ≡ []
 moves_of_other i j [] ne all = refl
 moves_of_other i j (x ∷ entries) ne all =
-    ap (λ o. cons_option o (filter_map (entry_of i) (events entries))) (entry_other i x.what (is_of_other i j (index_of x.what) ne (All-head (IsOf j) x entries all))) ∙ moves_of_other i j entries ne (All-tail (IsOf j) x entries all)
+    ap (λ o. cons_option o (filter_map (record_entry i) (events entries))) (entry_other i x.what (is_of_other i j (index_of x.what) ne (All-head (IsOf j) x entries all))) ∙ moves_of_other i j entries ne (All-tail (IsOf j) x entries all)
 
 -- ---- what was closed and released
 
@@ -92,7 +85,7 @@ take_longer p xs ys b le = ap (take p) (sym b.1) ∙ take-append-le p xs b.0 le
 pub closed_before_longer : (h h' : List MemEntry) (p : ℕ) (e : MemEntry) → IsPrefix h h' → p ≤ length h → IsClosedBefore h p e → IsClosedBefore h' p e
 closed_before_longer h h' p e b le k v is = ap (λ l. is_some (closer_of v (events l))) (take_longer p h h' b le) ∙ k v is
 
-pub released_longer : (n i v front : ℕ) (h h' : List MemEntry) → IsPrefix h h' → HasReleased n i v front h → HasReleased n i v front h'
+pub released_longer : (n i v front : ℕ) (h h' : List MemEntry) → IsPrefix h h' → HasReleasedBuffer n i v front h → HasReleasedBuffer n i v front h'
 released_longer n i v front h h' b k = record {
   place = k.place;
   released = stands_longer h h' k.place (record { hand = n; what = Release v }) b k.released;
@@ -103,7 +96,7 @@ released_longer n i v front h h' b k = record {
 -- ---- the ends
 
 -- a record that ended is one of those taken
-pub index_within : (part : Range) (s n : ℕ) (es : List IntakeEntry) (h : List MemEntry) (made : List Step) (l : Landing) → IsEnding part s n es h made l → l.index < length (takings es)
+pub index_within : (part : Range) (s n : ℕ) (es : List IntakeEntry) (h : List MemEntry) (made : List Step) (l : Landing) → IsEndingRecord part s n es h made l → l.index < length (takings es)
 index_within part s n es h made l (inl (t, k)) = slice_get_within (takings es) l.index t k.stands
 index_within part s n es h made l (inr k) = at (slice_get (takings es) l.index) refl k.waits
   where
@@ -137,7 +130,7 @@ module _ (part : Range) (s n i : ℕ) (es more : List IntakeEntry) (h h' : List 
     memory_reached = omega (arith, k.memory_reached, longer_length h h' gh.begins);
   }
 
-  closed_kept : (l : Landing) → HasClosed n es h l → HasClosed n more h' l
+  closed_kept : (l : Landing) → HasClosedBuffer n es h l → HasClosedBuffer n more h' l
   closed_kept l k = record {
     waits = taking_longer (λ t. t.waits ≡ true) es more l.index b k.waits;
     outcome = k.outcome;
@@ -147,9 +140,9 @@ module _ (part : Range) (s n i : ℕ) (es more : List IntakeEntry) (h h' : List 
     memory_reached = omega (arith, k.memory_reached, longer_length h h' gh.begins);
   }
 
-  pub ending_kept : (l : Landing) → length (takings es) ≤ i → IsEnding part s n es h made l → IsEnding part s n more h' made' l
+  pub ending_kept : (l : Landing) → length (takings es) ≤ i → IsEndingRecord part s n es h made l → IsEndingRecord part s n more h' made' l
   ending_kept l le k = at (λ e. let w = index_within part s n es h made l k in omega arith) k
     where
-      at : l.index ≢ i → IsEnding part s n es h made l → IsEnding part s n more h' made' l
+      at : l.index ≢ i → IsEndingRecord part s n es h made l → IsEndingRecord part s n more h' made' l
       at ne (inl (t, e)) = inl (t, ended_kept l t ne e)
       at ne (inr e) = inr (closed_kept l e)

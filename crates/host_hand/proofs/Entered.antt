@@ -1,25 +1,19 @@
 -- What a hand knows of the intake's history, as it grows.
-use Rattle.std.proofs.Common.{◌≡◌, ℕ, ◌≤◌, Bool, true, false, not, ◌==◌, cond, List, [], ◌∷◌, ◌++◌, length, filter_map, Option, Some, None, refl, sym, ap, ap₂, subst, ◌∙◌, arith, append_assoc, append-nil, length-append, eq-eqb}
+use Rattle.std.proofs.Common.{◌≡◌, ℕ, ◌≤◌, Bool, true, false, not, ◌==◌, cond, List, [], ◌∷◌, ◌++◌, length, filter_map, Option, Some, None, refl, sym, ap, ap₂, subst, ◌∙◌, arith, length-append, eq-eqb}
 use Rattle.std.specs.Prelude.{MatchOption}
 use Rattle.std.specs.List.{cons_option, list_all, slice_get}
 use Rattle.std.proofs.lemmas.List.Elements.{filter_map-append}
 use mathlib.Core.List.{IsPrefix}
-use Rattle.host_model.specs.declared.memory.MemEntry.{MemEntry}
-use Rattle.host_model.specs.declared.step.Step.{Step}
-use Rattle.host_model.specs.Lists.{map_after, map_with_before}
-use Rattle.host_model.specs.RecordEntries.{index_of}
-use Rattle.host_rings.specs.declared.slip.Slip.{Slip}
-use Rattle.host_turn.specs.History.{entries_of}
-use Rattle.host_intake.specs.declared.entry.IntakeEntry.{IntakeEntry}
-use Rattle.host_intake.specs.declared.entry.IntakeEntry.TheVariants.{Took, Landed, Passed, Turned}
-use Rattle.host_intake.specs.Entries.{Taking, landing_of, landings, maker_of, taking_of, takings}
-use Rattle.host_intake.specs.Told.{is_passed, kept_slips}
-use Rattle.host_intake.proofs.Ledgering.{and_left, and_right}
-use Rattle.host_hand.specs.Growth.{HasAdded}
-use Rattle.host_hand.specs.Kept.{own_landings, own_takings}
-use Rattle.host_hand.specs.Records.{IsMoveTaken, IsPastTaking, IsStepTaken, IsTakenBy}
-use Rattle.host_session.specs.Handed.{handed_by, slip_by, slip_in}
-use Rattle.host_hand.proofs.Growing.{own_rest, stands_append}
+use Rattle.host_model.specs.{MemEntry, Step, map_after, map_with_before, index_of}
+use Rattle.host_rings.specs.{Slip}
+use Rattle.host_log.specs.{entries_of, HasAdded}
+use Rattle.host_intake.specs.{IntakeEntry, Took, Landed, Passed, Turned, Taking, landing_of, landings, maker_of, taking_of, takings, is_passed, kept_slips}
+use Rattle.host_log.proofs.Bools.{and_left, and_right}
+use Rattle.host_hand.specs.{own_landings, own_takings, IsMoveTaken, IsPastTaking, IsStepTaken, IsTakenBy}
+use Rattle.host_session.specs.{handed_by, slip_by, slip_in}
+use Rattle.host_log.proofs.Growing.{own_rest}
+use Rattle.host_log.proofs.Places.{stands_append}
+use Rattle.host_session.proofs.Snoc.{map_after-append}
 
 -- ---- records that were taken
 
@@ -61,18 +55,8 @@ own_landings_added n added old new a = ap landings a.own ∙ filter_map-append l
 
 -- ---- the answers that it handed on
 
-cons_option_append : {A : Type 0} (o : Option A) (xs ys : List A) → cons_option o (xs ++ ys) ≡ cons_option o xs ++ ys
-cons_option_append None xs ys = refl
-cons_option_append (Some x) xs ys = refl
-
-pub map_after_append : {A B : Type 0} (f : List A → A → Option B) (before xs ys : List A) → map_after f before (xs ++ ys) ≡ map_after f before xs ++ map_after f (before ++ xs) ys
-map_after_append f before [] ys = ap (λ l. map_after f l ys) (sym (append-nil before))
-map_after_append f before (x ∷ xs) ys =
-    ap (cons_option (f before x)) (map_after_append f (before ++ x ∷ []) xs ys ∙ ap (λ l. map_after f (before ++ x ∷ []) xs ++ map_after f l ys) (append_assoc before (x ∷ []) xs))
-    ∙ cons_option_append (f before x) (map_after f (before ++ x ∷ []) xs) (map_after f (before ++ x ∷ xs) ys)
-
 pub map_with_before_append : {A B : Type 0} (f : List A → A → Option B) (xs ys : List A) → map_with_before f (xs ++ ys) ≡ map_with_before f xs ++ map_after f xs ys
-map_with_before_append f xs ys = map_after_append f [] xs ys
+map_with_before_append f xs ys = map_after-append f [] xs ys
 
 -- the answer that an entry tells to be handed on, whatever stood before
 abbrev pub slip_now : IntakeEntry → Option Slip

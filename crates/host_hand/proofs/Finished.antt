@@ -9,47 +9,21 @@ use Rattle.std.proofs.lemmas.List.Folds.{list_all-append, list_any-append}
 use Rattle.std.proofs.lemmas.Option.{slice_get_within}
 use mathlib.Core.List.{IsPrefix}
 use Rattle.atomic_table.specs.Seated.{TableId}
-use Rattle.host_frames.specs.Seats.{SeenPages}
-use Rattle.host_model.specs.declared.memory.MemEntry.{MemEntry}
-use Rattle.host_model.specs.declared.memory.MemEvent.{MemEvent}
-use Rattle.host_model.specs.declared.memory.MemEvent.TheVariants.{Release}
-use Rattle.host_model.specs.declared.step.Step.{Step}
+use Rattle.host_frames.specs.{SeenPages}
+use Rattle.host_model.specs.{MemEntry, MemEvent, Release, Step, Accepted, Refused, asked, carries_out, outcome_of, count, record_entry, index_of}
 use Rattle.host_model.specs.declared.verdict.Verdict.{Verdict}
-use Rattle.host_model.specs.declared.verdict.Verdict.TheVariants.{Accepted, Refused}
-use Rattle.host_model.specs.Carrying.{asked, carries_out, outcome_of}
-use Rattle.host_model.specs.Lists.{count}
-use Rattle.host_model.specs.RecordEntries.{entry_of, index_of}
-use Rattle.host_memory.specs.State.{events}
-use Rattle.host_record.specs.Command.{opcode}
-use Rattle.host_rings.specs.declared.slip.Slip.{Slip}
-use Rattle.host_rings.specs.AnswerEnds.{SlipSenderState}
-use Rattle.host_intake.specs.declared.entry.IntakeEntry.{IntakeEntry}
-use Rattle.host_intake.specs.declared.entry.IntakeEntry.TheVariants.{Landed}
-use Rattle.host_intake.specs.declared.entry.RecordEnd.{RecordEnd}
-use Rattle.host_intake.specs.Admissions.{entry_for}
-use Rattle.host_intake.specs.Entries.{Landing, Taking, is_landing_of, landing_of, landings, maker_of, place_of, request_in, taking_of, takings}
-use Rattle.host_intake.specs.Takings.{made, under}
-use Rattle.host_intake.proofs.Judging.{get_last}
-use Rattle.host_session.specs.declared.spec.SessionSpec.{SessionSpec}
-use Rattle.host_hand.specs.declared.carry.Carried.{Carried}
-use Rattle.host_hand.specs.declared.errand.Errand.{Errand}
-use Rattle.host_hand.specs.declared.work.Work.{Work}
-use Rattle.host_hand.specs.Buffers.{pages_freed, release_of}
-use Rattle.host_hand.specs.Ends.{LandsFreed, slips_pushed, with_slips}
-use Rattle.host_hand.specs.Errands.{IsStepFor, errand_of}
-use Rattle.host_hand.specs.Frames.{is_closer, pages_of, taken_out}
-use Rattle.host_hand.specs.Visits.{begun_by, is_begun}
-use Rattle.host_hand.specs.Growth.{HasAdded}
-use Rattle.host_hand.specs.Jobs.{HasTakenNext}
-use Rattle.host_hand.specs.Kept.{IsAtSession, is_judged_within, is_settled, own_landings, own_takings}
-use Rattle.host_session.specs.Moves.{moves_for, moves_owed}
-use Rattle.host_hand.specs.Records.{HasEnded, IsEnding, IsMoveTaken, IsPastTaking, IsStepTaken, IsTakenBy, steps_for}
-use Rattle.host_session.specs.Handed.{handed_by}
-use Rattle.host_hand.specs.Works.{HasCarried, IsFor, IsMoveFor, IsOutcome, verdict_of}
+use Rattle.host_memory.specs.{events}
+use Rattle.host_record.specs.{opcode}
+use Rattle.host_rings.specs.{Slip, SlipSenderState}
+use Rattle.host_intake.specs.{IntakeEntry, Landed, RecordEnd, taking_entry, Landing, Taking, is_landing_of, landing_of, landings, maker_of, place_of, request_in, taking_of, takings, made, under}
+use Rattle.host_session.specs.{SessionSpec, moves_for, moves_owed, handed_by}
+use Rattle.host_hand.specs.{Carried, Errand, Work, pages_freed, release_of, LandsFreed, slips_pushed, sender_with_slips, IsStepFor, errand_of, is_closer, pages_named, taken_out, begun_by, is_begun, HasTakenNext, IsAtSession, is_judged_within, is_settled, own_landings, own_takings, HasEnded, IsEndingRecord, IsMoveTaken, IsPastTaking, IsStepTaken, IsTakenBy, steps_for, HasCarried, IsFor, IsMoveFor, IsOutcome, work_verdict}
+use Rattle.host_log.specs.{HasAdded}
 use Rattle.host_hand.proofs.Endings.{IsOf, all_map, entry_other, is_step_of, moves_added, steps_added, steps_of_this}
 use Rattle.host_hand.proofs.Entered.{handed_added, is_no_pass, own_takings_added, slip_now, taken_longer}
 use Rattle.host_hand.proofs.Framing.{closed_added, closed_longer}
-use Rattle.host_hand.proofs.Growing.{added_after, longer_length, own_grown, own_place}
+use Rattle.host_log.proofs.Growing.{added_after, own_grown, own_place}
+use Rattle.host_log.proofs.Places.{longer_length, get_last}
 use Rattle.host_hand.proofs.Keeping.{Growth, begun_added, kept_more, taken_added}
 use Rattle.host_hand.proofs.FreedCloses.{FreedClose, freed_close, slip_now_pushed}
 use Rattle.host_hand.proofs.LeftBehind.{judged_room, taking_below}
@@ -77,11 +51,11 @@ pub events_under : (n : ℕ) (ms : List MemEvent) → events (under n ms) ≡ ms
 events_under n [] = refl
 events_under n (m ∷ ms) = ap (λ l. m ∷ l) (events_under n ms)
 
-each_named : (i : ℕ) (ms : List MemEvent) → All (IsMoveFor i) ms → filter_map (entry_of i) ms ≡ ms
+each_named : (i : ℕ) (ms : List MemEvent) → All (IsMoveFor i) ms → filter_map (record_entry i) ms ≡ ms
 each_named i [] all = refl
-each_named i (m ∷ ms) all = ap (λ o. cons_option o (filter_map (entry_of i) ms)) (All-head (IsMoveFor i) m ms all).entry_is ∙ ap (λ l. m ∷ l) (each_named i ms (All-tail (IsMoveFor i) m ms all))
+each_named i (m ∷ ms) all = ap (λ o. cons_option o (filter_map (record_entry i) ms)) (All-head (IsMoveFor i) m ms all).entry_is ∙ ap (λ l. m ∷ l) (each_named i ms (All-tail (IsMoveFor i) m ms all))
 
-release_none : (i v : ℕ) (freed : Option (ℕ × SeenPages)) → filter_map (entry_of i) (release_of v freed) ≡ []
+release_none : (i v : ℕ) (freed : Option (ℕ × SeenPages)) → filter_map (record_entry i) (release_of v freed) ≡ []
 release_none i v None = refl
 release_none i v (Some f) = refl
 
@@ -95,13 +69,13 @@ under_all P n (m ∷ ms) all = All-cons P (record { hand = n; what = m }) (under
 pub record Finish (spec : SessionSpec) (n : ℕ) (pool : TableId × ℕ) (before es1 es2 es3 : List IntakeEntry) (h h' : List MemEntry) (old_s new_s : List Step) (s s' s'' : SlipSenderState) (t : Taking) (w : Work) (c : Carried) (answer : Option Slip) (kept : Bool) : Type 0 where
   pub keeps : IsAtSession spec n before h old_s s.pushed
   pub taken : HasTakenNext n spec.part before es1 h t
-  pub verdict : t.verdict ≡ verdict_of w
+  pub verdict : t.verdict ≡ work_verdict w
   pub waits : t.waits ≡ false
   pub is_for : IsFor (opcode (request_in t)) w
   pub carried : HasCarried (errand_of n spec t.envelope) w pool c h h' old_s new_s
   pub freed : LandsFreed n c.end.memory_front c.freed es1 es2 s s'
   pub landed : HasAdded maker_of n (Landed n (place_of t) c.end answer kept ∷ []) es2 es3
-  pub sender : s'' ≡ with_slips s' (slips_pushed kept answer)
+  pub sender : s'' ≡ sender_with_slips s' (slips_pushed kept answer)
 
 -- the steps are for the record, which was accepted where there are some
 steps_meant : (e : Errand) (v : Verdict) (steps : List Step) → All (IsStepFor e) steps → carries_out (asked v e.part e.request) steps ≡ true → All (λ step. IsStepFor e step × (v ≡ Accepted)) steps
@@ -135,7 +109,7 @@ module _ (spec : SessionSpec) (n : ℕ) (pool : TableId × ℕ) (before es1 es2 
   closes : FreedClose spec n es1 es2 es3 h' new_s s.pushed s'.pushed
   closes = freed_close spec n errand pool c.end.memory_front c.freed es1 es2 es3 h' new_s s s' refl f.landed.begins f.carried.is_freed f.carried.memory_reached f.freed
 
-  taken_one : HasAdded maker_of n (entry_for t ∷ []) before es1
+  taken_one : HasAdded maker_of n (taking_entry t ∷ []) before es1
   taken_one = taken_added n before es1 t f.taken.by f.taken.entries
 
   own_landed : List IntakeEntry
@@ -145,13 +119,13 @@ module _ (spec : SessionSpec) (n : ℕ) (pool : TableId × ℕ) (before es1 es2 
   unfolding own_landed
   after = added_after maker_of n closes.added own_landed es1 es2 es3 closes.has_added f.landed
 
-  all_added : HasAdded maker_of n (entry_for t ∷ (closes.added ++ own_landed)) before es3
-  all_added = added_after maker_of n (entry_for t ∷ []) (closes.added ++ own_landed) before es1 es3 taken_one after
+  all_added : HasAdded maker_of n (taking_entry t ∷ (closes.added ++ own_landed)) before es3
+  all_added = added_after maker_of n (taking_entry t ∷ []) (closes.added ++ own_landed) before es1 es3 taken_one after
 
   stands : slice_get (takings es3) (place_of t) ≡ Some t
   stands = taken_longer es1 es3 (place_of t) t after.begins
       (ap (λ es. slice_get (takings es) (place_of t)) f.taken.entries
-      ∙ (ap (λ l. slice_get l (place_of t)) (filter_map-append taking_of before (entry_for t ∷ []))
+      ∙ (ap (λ l. slice_get l (place_of t)) (filter_map-append taking_of before (taking_entry t ∷ []))
       ∙ (ap (λ k. slice_get (takings before ++ t ∷ []) k) f.taken.index ∙ get_last (takings before) t)))
 
   taken_by : t.verdict ≡ Accepted → IsTakenBy es3 n (place_of t) t
@@ -194,7 +168,7 @@ module _ (spec : SessionSpec) (n : ℕ) (pool : TableId × ℕ) (before es1 es2 
               let less = slice_get_within (takings before) step.index k.0 k.1.stands in let index = f.taken.index in omega arith)
 
   old_moves : moves_for n (place_of t) h ≡ []
-  old_moves = none_of (entry_of (place_of t)) (λ (x : MemEntry). x.what) (λ x. x.hand == n) h
+  old_moves = none_of (record_entry (place_of t)) (λ (x : MemEntry). x.what) (λ x. x.hand == n) h
       (λ k x at mine. entry_other (place_of t) x.what (λ same. clash k x same (f.keeps.moves k x at (eqb-true x.hand n mine))))
     where
       clash : (k : ℕ) (x : MemEntry) → index_of x.what ≡ Some (place_of t) → IsMoveTaken before n k x → ⊥
@@ -219,8 +193,8 @@ module _ (spec : SessionSpec) (n : ℕ) (pool : TableId × ℕ) (before es1 es2 
   new_moves : moves_for n (place_of t) h' ≡ f.carried.moves
   new_moves = moves_added n (place_of t) errand.memory_front c.end.memory_front (under n (f.carried.moves ++ release_of errand.request.vmoid c.freed)) h h' f.carried.buffers
       ∙ ap₂ (λ a b. a ++ b) old_moves
-      (ap (filter_map (entry_of (place_of t))) (events_under n (f.carried.moves ++ release_of errand.request.vmoid c.freed))
-      ∙ (filter_map-append (entry_of (place_of t)) f.carried.moves (release_of errand.request.vmoid c.freed)
+      (ap (filter_map (record_entry (place_of t))) (events_under n (f.carried.moves ++ release_of errand.request.vmoid c.freed))
+      ∙ (filter_map-append (record_entry (place_of t)) f.carried.moves (release_of errand.request.vmoid c.freed)
       ∙ (ap₂ (λ a b. a ++ b) (each_named (place_of t) f.carried.moves outcome.named) (release_none (place_of t) errand.request.vmoid c.freed) ∙ append-nil f.carried.moves)))
 
   -- ---- how it ended
@@ -247,15 +221,15 @@ module _ (spec : SessionSpec) (n : ℕ) (pool : TableId × ℕ) (before es1 es2 
     memory_reached = f.carried.memory_reached;
   }
 
-  all_takings : takings (entry_for t ∷ (closes.added ++ own_landed)) ≡ t ∷ []
+  all_takings : takings (taking_entry t ∷ (closes.added ++ own_landed)) ≡ t ∷ []
   unfolding own_landed
   all_takings = ap (λ l. t ∷ l) (filter_map-append taking_of closes.added own_landed ∙ ap (λ l. l ++ []) closes.takes)
 
-  all_landings : landings (entry_for t ∷ (closes.added ++ own_landed)) ≡ landings closes.added ++ landing ∷ []
+  all_landings : landings (taking_entry t ∷ (closes.added ++ own_landed)) ≡ landings closes.added ++ landing ∷ []
   unfolding own_landed landing
   all_landings = filter_map-append landing_of closes.added own_landed
 
-  settled_now : list_all (is_settled (own_landings n before ++ landings (entry_for t ∷ (closes.added ++ own_landed)))) (takings (entry_for t ∷ (closes.added ++ own_landed))) ≡ true
+  settled_now : list_all (is_settled (own_landings n before ++ landings (taking_entry t ∷ (closes.added ++ own_landed)))) (takings (taking_entry t ∷ (closes.added ++ own_landed))) ≡ true
   unfolding landing
   settled_now = ap₂ (λ ls ts. list_all (is_settled (own_landings n before ++ ls)) ts) all_landings all_takings ∙ settled_here
     where
@@ -271,7 +245,7 @@ module _ (spec : SessionSpec) (n : ℕ) (pool : TableId × ℕ) (before es1 es2 
   growth : Growth spec n before es3 h h' old_s new_s s''.pushed
   unfolding own_landed
   growth = record {
-    added = entry_for t ∷ (closes.added ++ own_landed);
+    added = taking_entry t ∷ (closes.added ++ own_landed);
     has_added = all_added;
     index = place_of t;
     fresh = let e = f.taken.index in omega arith;
@@ -290,31 +264,31 @@ module _ (spec : SessionSpec) (n : ℕ) (pool : TableId × ℕ) (before es1 es2 
     moves_taken = moves_taken;
     closers = f.carried.closers;
     settled = settled_now;
-    endings = subst (λ ls. All (IsEnding spec.part spec.number n es3 h' new_s) ls) (sym all_landings)
-        (All-append (IsEnding spec.part spec.number n es3 h' new_s) (landings closes.added) (landing ∷ []) closes.endings
-        (All-cons (IsEnding spec.part spec.number n es3 h' new_s) landing [] (inl (t, ended)) (All-nil (IsEnding spec.part spec.number n es3 h' new_s))));
+    endings = subst (λ ls. All (IsEndingRecord spec.part spec.number n es3 h' new_s) ls) (sym all_landings)
+        (All-append (IsEndingRecord spec.part spec.number n es3 h' new_s) (landings closes.added) (landing ∷ []) closes.endings
+        (All-cons (IsEndingRecord spec.part spec.number n es3 h' new_s) landing [] (inl (t, ended)) (All-nil (IsEndingRecord spec.part spec.number n es3 h' new_s))));
     slips = slips_now;
     seen = ap (list_all (is_judged_within (length h'))) all_takings ∙ ap (λ b. b && true) (le-leb t.seen (length h') (let r = room in let longer = longer_length h h' f.carried.buffers.begins in omega arith));
   }
     where
-      pushed_all : filter_map slip_now (entry_for t ∷ (closes.added ++ own_landed)) ≡ filter_map slip_now closes.added ++ slips_pushed kept answer
+      pushed_all : filter_map slip_now (taking_entry t ∷ (closes.added ++ own_landed)) ≡ filter_map slip_now closes.added ++ slips_pushed kept answer
       pushed_all = filter_map-append slip_now closes.added own_landed ∙ ap (λ l. filter_map slip_now closes.added ++ l) (slip_now_pushed n (place_of t) c.end answer kept)
 
-      no_pass : list_all is_no_pass (entry_for t ∷ (closes.added ++ own_landed)) ≡ true
+      no_pass : list_all is_no_pass (taking_entry t ∷ (closes.added ++ own_landed)) ≡ true
       no_pass = list_all-append is_no_pass closes.added own_landed ∙ ap (λ b. b && true) closes.passes
 
       slips_now : s''.pushed ≡ handed_by n es3
       slips_now = ap (λ (x : SlipSenderState). x.pushed) f.sender
           ∙ (ap (λ l. l ++ slips_pushed kept answer) (closes.slips ∙ ap (λ l. l ++ filter_map slip_now closes.added) f.keeps.slips)
           ∙ (append_assoc (handed_by n before) (filter_map slip_now closes.added) (slips_pushed kept answer)
-          ∙ (ap (λ l. handed_by n before ++ l) (sym pushed_all) ∙ sym (handed_added n (entry_for t ∷ (closes.added ++ own_landed)) before es3 all_added no_pass))))
+          ∙ (ap (λ l. handed_by n before ++ l) (sym pushed_all) ∙ sym (handed_added n (taking_entry t ∷ (closes.added ++ own_landed)) before es3 all_added no_pass))))
 
   -- the hand keeps the session
   pub kept_ended : IsAtSession spec n es3 h' new_s s''.pushed
   kept_ended = kept_more spec n before es3 h h' old_s new_s s.pushed s''.pushed f.keeps growth
 
   own_seen : list_all (is_judged_within (length h)) (own_takings n es1) ≡ true
-  own_seen = ap (list_all (is_judged_within (length h))) (own_takings_added n (entry_for t ∷ []) before es1 taken_one)
+  own_seen = ap (list_all (is_judged_within (length h))) (own_takings_added n (taking_entry t ∷ []) before es1 taken_one)
       ∙ (list_all-append (is_judged_within (length h)) (own_takings n before) (t ∷ [])
       ∙ ap₂ (λ a b. a && (b && true)) f.keeps.seen (le-leb t.seen (length h) (let r = room in omega arith)))
 
@@ -327,7 +301,7 @@ module _ (spec : SessionSpec) (n : ℕ) (pool : TableId × ℕ) (before es1 es2 
   out_ended =
       let longer = closed_longer n es1 h h' f.carried.buffers.begins own_seen in
       let added = closed_added n (closes.added ++ own_landed) es1 es3 h' after in
-      let none : sum (map (pages_of h') (filter is_closer (takings (closes.added ++ own_landed)))) ≡ 0 = ap (λ l. sum (map (pages_of h') (filter is_closer l))) no_takings in
+      let none : sum (map (pages_named h') (filter is_closer (takings (closes.added ++ own_landed)))) ≡ 0 = ap (λ l. sum (map (pages_named h') (filter is_closer l))) no_takings in
       omega (arith, f.carried.frames)
 
   -- nothing was begun meanwhile

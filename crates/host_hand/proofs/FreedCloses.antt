@@ -4,25 +4,14 @@ use Rattle.std.specs.List.{All, list_all}
 use Rattle.std.proofs.lemmas.List.Elements.{All-nil, All-cons}
 use mathlib.Core.List.{IsPrefix}
 use Rattle.atomic_table.specs.Seated.{TableId}
-use Rattle.host_frames.specs.Seats.{SeenPages}
-use Rattle.host_model.specs.declared.memory.MemEntry.{MemEntry}
-use Rattle.host_model.specs.declared.step.Step.{Step}
-use Rattle.host_model.specs.Lists.{count}
+use Rattle.host_frames.specs.{SeenPages}
+use Rattle.host_model.specs.{MemEntry, Step, count}
 use Rattle.host_record.specs.declared.status.Status.TheVariants as status
-use Rattle.host_rings.specs.declared.slip.Slip.{Slip}
-use Rattle.host_rings.specs.AnswerEnds.{SlipSenderState}
-use Rattle.host_turn.specs.History.{entries_of}
-use Rattle.host_intake.specs.declared.entry.IntakeEntry.{IntakeEntry}
-use Rattle.host_intake.specs.declared.entry.IntakeEntry.TheVariants.{Landed}
-use Rattle.host_intake.specs.declared.entry.RecordEnd.{RecordEnd}
-use Rattle.host_intake.specs.Entries.{Landing, landings, maker_of, takings}
-use Rattle.host_session.specs.declared.spec.SessionSpec.{SessionSpec}
-use Rattle.host_hand.specs.declared.errand.Errand.{Errand}
-use Rattle.host_hand.specs.Buffers.{IsFreed}
-use Rattle.host_hand.specs.Ends.{LandsFreed, slips_pushed}
-use Rattle.host_hand.specs.Visits.{is_begun}
-use Rattle.host_hand.specs.Growth.{HasAdded, IsReached}
-use Rattle.host_hand.specs.Records.{HasClosed, HasReleased, IsEnding}
+use Rattle.host_rings.specs.{Slip, SlipSenderState}
+use Rattle.host_log.specs.{entries_of, HasAdded, IsReached}
+use Rattle.host_intake.specs.{IntakeEntry, Landed, RecordEnd, Landing, landings, maker_of, takings}
+use Rattle.host_session.specs.{SessionSpec}
+use Rattle.host_hand.specs.{Errand, IsBufferFreed, LandsFreed, slips_pushed, is_begun, HasClosedBuffer, HasReleasedBuffer, IsEndingRecord}
 use Rattle.host_hand.proofs.Entered.{is_no_pass, slip_now, taking_longer}
 
 pub slip_now_pushed : (n i : ℕ) (end : RecordEnd) (answer : Option Slip) (kept : Bool) → filter_map slip_now (Landed n i end answer kept ∷ []) ≡ slips_pushed kept answer
@@ -36,28 +25,28 @@ pub record FreedClose (spec : SessionSpec) (n : ℕ) (es more last : List Intake
   pub takes : takings added ≡ []
   pub passes : list_all is_no_pass added ≡ true
   pub begins : count is_begun added ≡ 0
-  pub endings : All (IsEnding spec.part spec.number n last h made) (landings added)
+  pub endings : All (IsEndingRecord spec.part spec.number n last h made) (landings added)
   pub slips : pushed ≡ was ++ filter_map slip_now added
 
 pub freed_close : (spec : SessionSpec) (n : ℕ) (e : Errand) (pool : TableId × ℕ) (front : ℕ) (freed : Option (ℕ × SeenPages)) (es more last : List IntakeEntry) (h : List MemEntry) (made : List Step) (s s' : SlipSenderState)
-    → e.hand ≡ n → IsPrefix more last → IsFreed e pool front h freed → IsReached front h → LandsFreed n front freed es more s s' → FreedClose spec n es more last h made s.pushed s'.pushed
+    → e.hand ≡ n → IsPrefix more last → IsBufferFreed e pool front h freed → IsReached front h → LandsFreed n front freed es more s s' → FreedClose spec n es more last h made s.pushed s'.pushed
 freed_close spec n e pool front None es more last h made s s' by b f reached k = record {
   added = [];
   has_added = record { begins = ([], append-nil es ∙ sym k.0); own = ap (entries_of maker_of n) k.0 ∙ sym (append-nil (entries_of maker_of n es)) };
   takes = refl;
   passes = refl;
   begins = refl;
-  endings = All-nil (IsEnding spec.part spec.number n last h made);
+  endings = All-nil (IsEndingRecord spec.part spec.number n last h made);
   slips = ap (λ (x : SlipSenderState). x.pushed) k.1 ∙ sym (append-nil s.pushed);
 }
 freed_close spec n e pool front (Some freed) es more last h made s s' by b f reached k =
     let end : RecordEnd = record { outcome = status.Ok; device_front = 0; memory_front = front } in
     let l : Landing = record { hand = n; index = freed.0; end = end; answer = k.answer; kept = k.kept } in
-    let closed : HasClosed n last h l = record {
+    let closed : HasClosedBuffer n last h l = record {
       waits = taking_longer (λ t. t.waits ≡ true) more last freed.0 b k.waits;
       outcome = refl;
       buffer = e.request.vmoid;
-      released = subst (λ m. HasReleased m freed.0 e.request.vmoid front h) by f.1;
+      released = subst (λ m. HasReleasedBuffer m freed.0 e.request.vmoid front h) by f.1;
       device_front = refl;
       memory_reached = reached;
     } in
@@ -67,6 +56,6 @@ freed_close spec n e pool front (Some freed) es more last h made s s' by b f rea
       takes = refl;
       passes = refl;
       begins = refl;
-      endings = All-cons (IsEnding spec.part spec.number n last h made) l [] (inr closed) (All-nil (IsEnding spec.part spec.number n last h made));
+      endings = All-cons (IsEndingRecord spec.part spec.number n last h made) l [] (inr closed) (All-nil (IsEndingRecord spec.part spec.number n last h made));
       slips = ap (λ (x : SlipSenderState). x.pushed) k.sender ∙ ap (λ m. s.pushed ++ m) (sym (slip_now_pushed n freed.0 end k.answer k.kept));
     }

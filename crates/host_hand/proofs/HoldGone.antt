@@ -7,25 +7,17 @@ use Rattle.std.proofs.lemmas.List.{take_at}
 use Rattle.std.proofs.lemmas.List.Sums.{sum_by-append}
 use Rattle.std.proofs.lemmas.Option.{same_Some}
 use Rattle.atomic_table.specs.Seated.{TableId}
-use Rattle.host_frames.specs.Seats.{SeenPages}
-use Rattle.host_model.specs.declared.memory.MemEntry.{MemEntry}
-use Rattle.host_model.specs.declared.memory.MemEvent.TheVariants.{Done, Release}
-use Rattle.host_model.specs.Lists.{map_after, map_with_before}
-use Rattle.host_memory.specs.Held.{Attachment, attachment_by, closer_of, page_count_of}
-use Rattle.host_memory.specs.PagesHeld.{ArePagesOf}
-use Rattle.host_memory.specs.Pins.{closer_due, pins_on}
-use Rattle.host_memory.specs.State.{MemoryState, events, history, size_of}
+use Rattle.host_frames.specs.{SeenPages}
+use Rattle.host_model.specs.{MemEntry, Done, Release, map_after, map_with_before}
+use Rattle.host_memory.specs.{Attachment, attachment_by, closer_of, page_count_of, ArePagesOf, closer_due, pins_on, MemoryState, events, history, block_size_of}
 use Rattle.host_memory.proofs.Pushed.{events_pushed, filter_map_skip}
-use Rattle.host_turn.specs.History.{Continues}
-use Rattle.host_intake.specs.Takings.{under}
-use Rattle.host_intake.proofs.Judging.{get_append, get_last}
-use Rattle.host_hand.specs.declared.errand.Errand.{Errand}
-use Rattle.host_hand.specs.Buffers.{HasLetGo, IsFreed, pages_freed, release_of}
-use Rattle.host_hand.specs.Frames.{pages_by, pages_in, released_by}
-use Rattle.host_hand.specs.Records.{IsClosedBefore}
+use Rattle.host_log.specs.{Continues}
+use Rattle.host_intake.specs.{under}
+use Rattle.host_log.proofs.Places.{get_append, get_last}
+use Rattle.host_hand.specs.{Errand, HasLetGo, IsBufferFreed, pages_freed, release_of, pages_by, pages_released_in, released_by, IsClosedBefore}
 use Rattle.host_hand.proofs.Entered.{map_with_before_append}
 use Rattle.host_hand.proofs.Framing.{released_still}
-use Rattle.host_hand.proofs.Growing.{grown_turn, not_between}
+use Rattle.host_log.proofs.Growing.{grown_turn, not_between}
 use Rattle.host_hand.proofs.HoldPins.{all_under}
 
 -- what the call that lets go of a buffer adds
@@ -67,16 +59,16 @@ module _ (n i v : ℕ) (pool : TableId × ℕ) (size : ℕ) (mid : List MemEntry
   unfolding done_entry release_entry
   frames_more None pages =
       ap sum (map_with_before_append (pages_by n) mid (done_entry ∷ [])) ∙ (sum_by-append (λ x. x) (map_with_before (pages_by n) mid) (map_after (pages_by n) mid (done_entry ∷ []))
-      ∙ ap (λ b. released_by n mid + sum (cons_option (cond b (pages_in mid (Done i v)) None) [])) (eq-eqb n n refl))
+      ∙ ap (λ b. released_by n mid + sum (cons_option (cond b (pages_released_in mid (Done i v)) None) [])) (eq-eqb n n refl))
   frames_more (Some f) pages =
       ap sum (map_with_before_append (pages_by n) mid (done_entry ∷ release_entry ∷ [])) ∙ (sum_by-append (λ x. x) (map_with_before (pages_by n) mid) (map_after (pages_by n) mid (done_entry ∷ release_entry ∷ []))
-      ∙ (ap (λ b. released_by n mid + sum (cons_option (cond b (pages_in mid (Done i v)) None) (cons_option (cond b (pages_in (mid ++ done_entry ∷ []) (Release v)) None) []))) (eq-eqb n n refl)
+      ∙ (ap (λ b. released_by n mid + sum (cons_option (cond b (pages_released_in mid (Done i v)) None) (cons_option (cond b (pages_released_in (mid ++ done_entry ∷ []) (Release v)) None) []))) (eq-eqb n n refl)
       ∙ let c = pages.number in let s = pages_still in omega arith))
 
 module _ (e : Errand) (pool : TableId × ℕ) (size front : ℕ) (old mid new : List MemEntry) (later : Continues (λ (x : MemEntry). x.hand) e.hand old mid) (past : e.memory_front ≤ length mid) (front_is : front ≡ length new) where
   freed_is : (freed : Option (ℕ × SeenPages)) → option_map (λ (r : ℕ × SeenPages). r.0) freed ≡ closer_due e.request.vmoid (events mid ++ Done e.index e.request.vmoid ∷ [])
       → IfSome freed (λ r. ArePagesOf pool size (events mid) e.request.vmoid (page_count_of e.request.vmoid (events mid)) r.1)
-      → new ≡ mid ++ under e.hand (Done e.index e.request.vmoid ∷ release_of e.request.vmoid freed) → IsFreed e pool front new freed
+      → new ≡ mid ++ under e.hand (Done e.index e.request.vmoid ∷ release_of e.request.vmoid freed) → IsBufferFreed e pool front new freed
   unfolding done_entry release_entry
   freed_is None answer pages is = tt
   freed_is (Some f) answer pages is =
@@ -123,5 +115,5 @@ module _ (e : Errand) (pool : TableId × ℕ) (size front : ℕ) (old mid new : 
 
 -- the pages are of the pool that the memory's pages are of
 pub pages_here : (pool : TableId × ℕ) (m : MemoryState) (v : ℕ) (freed : Option (ℕ × SeenPages)) → m.plan.pool ≡ pool
-    → IfSome freed (λ r. ArePagesOf m.plan.pool (size_of m) (history m) v (page_count_of v (history m)) r.1) → IfSome freed (λ r. ArePagesOf pool (size_of m) (events m.entries) v (page_count_of v (events m.entries)) r.1)
-pages_here pool m v freed is pages = subst (λ p. IfSome freed (λ r. ArePagesOf p (size_of m) (events m.entries) v (page_count_of v (events m.entries)) r.1)) is pages
+    → IfSome freed (λ r. ArePagesOf m.plan.pool (block_size_of m) (history m) v (page_count_of v (history m)) r.1) → IfSome freed (λ r. ArePagesOf pool (block_size_of m) (events m.entries) v (page_count_of v (events m.entries)) r.1)
+pages_here pool m v freed is pages = subst (λ p. IfSome freed (λ r. ArePagesOf p (block_size_of m) (events m.entries) v (page_count_of v (events m.entries)) r.1)) is pages

@@ -1,28 +1,21 @@
 -- A buffer that a record has pinned is still pinned, whatever others add to the history.
-use Rattle.std.proofs.Common.{◌≡◌, ℕ, ◌+◌, ◌≤◌, ◌==◌, Bool, true, false, not, ◌||◌, ◌&&◌, cond, List, [], ◌∷◌, ◌++◌, length, filter, filter_map, Option, Some, None, refl, sym, ap, ap₂, subst, ◌∙◌, arith, eq-eqb, ltb-true}
+use Rattle.std.proofs.Common.{◌≡◌, ℕ, ◌+◌, ◌≤◌, ◌==◌, Bool, true, false, not, ◌||◌, ◌&&◌, cond, List, [], ◌∷◌, ◌++◌, length, filter, Option, Some, None, refl, sym, ap, ap₂, subst, ◌∙◌, arith, eq-eqb, ltb-true}
 use Rattle.std.specs.Prelude.{◌<◌, nat_lt, slice_get}
 use Rattle.std.specs.List.{All, list_all, list_any}
 use Rattle.std.specs.Option.{option_map_or}
 use Rattle.std.proofs.lemmas.Bool.{and_parts, eqb-true, or_left, or_parts}
 use Rattle.std.proofs.lemmas.List.{map-append}
-use Rattle.std.proofs.lemmas.List.Elements.{All-nil, All-cons, filter_map-append}
+use Rattle.std.proofs.lemmas.List.Elements.{All-nil, All-cons}
 use Rattle.std.proofs.lemmas.List.Folds.{list_any-append}
-use Rattle.host_model.specs.declared.memory.MemEntry.{MemEntry}
-use Rattle.host_model.specs.declared.memory.MemEvent.{MemEvent}
-use Rattle.host_model.specs.declared.memory.MemEvent.TheVariants.{Pin, Done}
-use Rattle.host_model.specs.Lists.{count}
-use Rattle.host_memory.specs.Held.{Attachment, attachment_by, attachment_of, is_block_of, page_count_of}
-use Rattle.host_memory.specs.Numbers.{is_by_its_hand, is_hand_of}
-use Rattle.host_memory.specs.Pins.{is_done_for, is_left, is_pin_by, is_pin_for, is_pinned_by}
-use Rattle.host_memory.specs.State.{events}
+use Rattle.host_model.specs.{MemEntry, MemEvent, Pin, Done, count}
+use Rattle.host_memory.specs.{Attachment, attachment_of, is_block_of, page_count_of, is_by_its_hand, is_hand_of, is_done_for, is_left, is_pin_by, is_pin_for, is_pinned_by, events}
 use Rattle.host_memory.proofs.Carrying.{pin_for}
 use Rattle.host_memory.proofs.Pinning.{some_counted}
-use Rattle.host_turn.specs.History.{Continues, entries_of}
-use Rattle.host_intake.specs.Takings.{under}
-use Rattle.host_hand.specs.declared.errand.Errand.{Errand}
-use Rattle.host_hand.specs.Buffers.{IsHeld}
-use Rattle.host_hand.specs.Growth.{HasGrown}
-use Rattle.host_hand.proofs.Growing.{grown_nothing}
+use Rattle.host_log.specs.{Continues, entries_of, HasGrown}
+use Rattle.host_intake.specs.{under}
+use Rattle.host_hand.specs.{Errand, IsHeld}
+use Rattle.host_log.proofs.Growing.{grown_nothing}
+use Rattle.host_intake.proofs.Answering.{block_later}
 
 -- ---- entries under one number
 
@@ -127,11 +120,6 @@ first_stays : {A : Type 0} (f : Option A → Bool) (xs ys : List A) → f None �
 first_stays f [] ys none some = absurd (cc)
 first_stays f (x ∷ xs) ys none some = some
 
-block_stays : (v b : ℕ) (h more : List MemEvent) → is_block_of v h b ≡ true → is_block_of v (h ++ more) b ≡ true
-block_stays v b h more is =
-    ap (λ l. option_map_or (λ (a : Attachment). nat_lt b a.pages) (slice_get l 0) false) (filter_map-append (attachment_by v) h more)
-    ∙ first_stays (λ o. option_map_or (λ (a : Attachment). nat_lt b a.pages) o false) (filter_map (attachment_by v) h) (filter_map (attachment_by v) more) refl is
-
 pub events_append : (xs ys : List MemEntry) → events (xs ++ ys) ≡ events xs ++ events ys
 events_append xs ys = map-append (λ (x : MemEntry). x.what) xs ys
 
@@ -144,7 +132,7 @@ held_grown e front stop moves old new none g k =
       undone = ap (λ l. list_any (is_done_for e.index) (events l)) g.own
           ∙ (ap (list_any (is_done_for e.index)) (events_append (entries_of (λ (x : MemEntry). x.hand) e.hand old) (under e.hand moves) ∙ ap (λ l. events (entries_of (λ (x : MemEntry). x.hand) e.hand old) ++ l) (events_under e.hand moves))
           ∙ (list_any-append (is_done_for e.index) (events (entries_of (λ (x : MemEntry). x.hand) e.hand old)) moves ∙ ap₂ (λ a b. a || b) k.undone none));
-      blocks = λ j lt. subst (λ h. is_block_of e.request.vmoid h (e.request.vmo_offset + j) ≡ true) (sym whole) (block_stays e.request.vmoid (e.request.vmo_offset + j) (events old) (events g.begins.0) (k.blocks j lt));
+      blocks = λ j lt. subst (λ h. is_block_of e.request.vmoid h (e.request.vmo_offset + j) ≡ true) (sym whole) (block_later e.request.vmoid (e.request.vmo_offset + j) (events old) (events g.begins.0) (k.blocks j lt));
     }
 
 pub held_still : (e : Errand) (old new : List MemEntry) → Continues (λ (x : MemEntry). x.hand) e.hand old new → IsHeld e old → IsHeld e new

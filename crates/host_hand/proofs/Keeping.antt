@@ -5,28 +5,18 @@ use Rattle.std.proofs.lemmas.Bool.{le-leb, leb-true}
 use Rattle.std.proofs.lemmas.List.Elements.{All-nil, All-cons, All-append, filter-append}
 use Rattle.std.proofs.lemmas.List.Folds.{list_all-append, list_any-append}
 use Rattle.std.proofs.lemmas.Option.{slice_get_within}
-use Rattle.host_model.specs.declared.memory.MemEntry.{MemEntry}
-use Rattle.host_model.specs.declared.step.Step.{Step}
-use Rattle.host_model.specs.Lists.{count}
-use Rattle.host_rings.specs.declared.slip.Slip.{Slip}
-use Rattle.host_turn.specs.History.{Continues, entries_of}
-use Rattle.host_turn.proofs.Histories.{prefix_refl}
-use Rattle.host_intake.specs.declared.entry.IntakeEntry.{IntakeEntry}
-use Rattle.host_intake.specs.declared.entry.IntakeEntry.TheVariants.{Passed}
-use Rattle.host_intake.specs.Admissions.{entry_for}
-use Rattle.host_intake.specs.Entries.{Landing, Taking, is_landing_of, landings, maker_of, place_of, takings}
-use Rattle.host_intake.specs.Told.{kept_slips}
-use Rattle.host_intake.proofs.Judging.{get_append}
-use Rattle.host_intake.proofs.Ledgering.{and_left, and_right}
-use Rattle.host_session.specs.declared.spec.SessionSpec.{SessionSpec}
-use Rattle.host_hand.specs.Growth.{EachOwn, HasAdded, HasGrown}
-use Rattle.host_hand.specs.Kept.{IsAtSession, is_judged_within, is_settled, own_landings, own_takings}
-use Rattle.host_hand.specs.Records.{IsClosedBefore, IsEnding, IsMoveTaken, IsStepTaken}
-use Rattle.host_session.specs.Handed.{handed_by}
-use Rattle.host_hand.specs.Visits.{begun_by, is_begun}
+use Rattle.host_model.specs.{MemEntry, Step, count}
+use Rattle.host_rings.specs.{Slip}
+use Rattle.host_log.specs.{Continues, entries_of, EachOwn, HasAdded, HasGrown}
+use Rattle.host_log.proofs.Histories.{prefix_refl}
+use Rattle.host_intake.specs.{IntakeEntry, Passed, taking_entry, Landing, Taking, is_landing_of, landings, maker_of, place_of, takings, kept_slips}
+use Rattle.host_log.proofs.Bools.{and_left, and_right}
+use Rattle.host_session.specs.{SessionSpec, handed_by}
+use Rattle.host_hand.specs.{IsAtSession, is_judged_within, is_settled, own_landings, own_takings, IsClosedBefore, IsEndingRecord, IsMoveTaken, IsStepTaken, begun_by, is_begun}
 use Rattle.host_hand.proofs.Endings.{IsOf, all_map, closed_before_longer, ending_kept}
 use Rattle.host_hand.proofs.Entered.{handed_added, handed_passed, move_taken_longer, own_landings_added, own_takings_added, step_taken_longer}
-use Rattle.host_hand.proofs.Growing.{added_nothing, added_turn, grown_nothing, grown_refl, longer_length, not_between}
+use Rattle.host_log.proofs.Growing.{added_nothing, added_turn, grown_nothing, grown_refl, not_between}
+use Rattle.host_log.proofs.Places.{longer_length, get_append}
 
 -- What the hand and others did since: the hand's own entries are these, its steps and its entries at the buffers are of one
 -- record, which it took since, and past what is asked of them.
@@ -49,7 +39,7 @@ pub record Growth (spec : SessionSpec) (n : ℕ) (es more : List IntakeEntry) (h
   pub moves_taken : (p : ℕ) (e : MemEntry) → length h ≤ p → slice_get h' p ≡ Some e → e.hand ≡ n → IsMoveTaken more n p e
   pub closers : EachOwn (λ e. e.hand) n (λ p e. length h ≤ p → IsClosedBefore h' p e) h'
   pub settled : list_all (is_settled (own_landings n es ++ landings added)) (takings added) ≡ true
-  pub endings : All (IsEnding spec.part spec.number n more h' made') (landings added)
+  pub endings : All (IsEndingRecord spec.part spec.number n more h' made') (landings added)
   pub slips : pushed ≡ handed_by n more
   pub seen : list_all (is_judged_within (length h')) (takings added) ≡ true
 
@@ -82,9 +72,9 @@ module _ (spec : SessionSpec) (n : ℕ) (es more : List IntakeEntry) (h h' : Lis
         ap₂ (λ ls ts. list_all (is_settled ls) ts) (own_landings_added n g.added es more g.has_added) (own_takings_added n g.added es more g.has_added)
         ∙ (list_all-append (is_settled (own_landings n es ++ landings g.added)) (own_takings n es) (takings g.added)
         ∙ ap₂ (λ a b. a && b) (all_settled_more (own_landings n es) (landings g.added) (own_takings n es) k.settled) g.settled);
-    endings = subst (λ ls. All (IsEnding spec.part spec.number n more h' made') ls) (sym (own_landings_added n g.added es more g.has_added))
-        (All-append (IsEnding spec.part spec.number n more h' made') (own_landings n es) (landings g.added)
-        (all_map (IsEnding spec.part spec.number n es h made) (IsEnding spec.part spec.number n more h' made') (own_landings n es)
+    endings = subst (λ ls. All (IsEndingRecord spec.part spec.number n more h' made') ls) (sym (own_landings_added n g.added es more g.has_added))
+        (All-append (IsEndingRecord spec.part spec.number n more h' made') (own_landings n es) (landings g.added)
+        (all_map (IsEndingRecord spec.part spec.number n es h made) (IsEndingRecord spec.part spec.number n more h' made') (own_landings n es)
         (λ l e. ending_kept spec.part spec.number n g.index es more h h' made made' g.step_front g.step_stop g.move_front g.move_stop g.steps g.entries g.has_added.begins g.stepped g.moved g.stepped_for g.moved_for l g.fresh e) k.endings) g.endings);
     slips = g.slips;
     seen =
@@ -108,8 +98,8 @@ module _ (spec : SessionSpec) (n : ℕ) (es more : List IntakeEntry) (h h' : Lis
 -- ---- others went on, and the hand did this much
 
 -- the hand took this record
-pub taken_added : (n : ℕ) (es more : List IntakeEntry) (t : Taking) → t.hand ≡ n → more ≡ es ++ entry_for t ∷ [] → HasAdded maker_of n (entry_for t ∷ []) es more
-taken_added n es more t by is = added_turn maker_of n (entry_for t ∷ []) es es more (prefix_refl es, refl) is (All-cons (λ e. maker_of e ≡ n) (entry_for t) [] by (All-nil (λ e. maker_of e ≡ n)))
+pub taken_added : (n : ℕ) (es more : List IntakeEntry) (t : Taking) → t.hand ≡ n → more ≡ es ++ taking_entry t ∷ [] → HasAdded maker_of n (taking_entry t ∷ []) es more
+taken_added n es more t by is = added_turn maker_of n (taking_entry t ∷ []) es es more (prefix_refl es, refl) is (All-cons (λ e. maker_of e ≡ n) (taking_entry t) [] by (All-nil (λ e. maker_of e ≡ n)))
 
 module _ (spec : SessionSpec) (n : ℕ) (es more : List IntakeEntry) (h h' : List MemEntry) (made : List Step) where
   -- the hand's own entries are these; it made no step, and did nothing to the buffers
@@ -134,7 +124,7 @@ module _ (spec : SessionSpec) (n : ℕ) (es more : List IntakeEntry) (h h' : Lis
     moves_taken = λ p e from at by. absurd (not_between (λ e. e.hand) n h h' p e c at by from);
     closers = λ p e at by from. absurd (not_between (λ e. e.hand) n h h' p e c at by from);
     settled = settled;
-    endings = subst (λ ls. All (IsEnding spec.part spec.number n more h' made) ls) (sym none) (All-nil (IsEnding spec.part spec.number n more h' made));
+    endings = subst (λ ls. All (IsEndingRecord spec.part spec.number n more h' made) ls) (sym none) (All-nil (IsEndingRecord spec.part spec.number n more h' made));
     slips = slips;
     seen = seen;
   }
@@ -145,11 +135,11 @@ module _ (spec : SessionSpec) (n : ℕ) (es more : List IntakeEntry) (h h' : Lis
       kept_more spec n es more h h' made made pushed pushed k (quiet pushed [] a d (k.slips ∙ sym (handed_added n [] es more a refl ∙ append-nil (handed_by n es))) refl refl refl)
 
   -- a close was taken that waits
-  pub kept_waiting : (pushed : List Slip) (t : Taking) → t.hand ≡ n → t.waits ≡ true → t.seen ≤ length h' → more ≡ es ++ entry_for t ∷ [] → Continues (λ e. e.hand) n h h' → IsAtSession spec n es h made pushed → IsAtSession spec n more h' made pushed
+  pub kept_waiting : (pushed : List Slip) (t : Taking) → t.hand ≡ n → t.waits ≡ true → t.seen ≤ length h' → more ≡ es ++ taking_entry t ∷ [] → Continues (λ e. e.hand) n h h' → IsAtSession spec n es h made pushed → IsAtSession spec n more h' made pushed
   kept_waiting pushed t by waits seen is d k =
       let a = taken_added n es more t by is in
       kept_more spec n es more h h' made made pushed pushed k
-      (quiet pushed (entry_for t ∷ []) a d (k.slips ∙ sym (handed_added n (entry_for t ∷ []) es more a refl ∙ append-nil (handed_by n es))) (ap (λ w. (w || list_any (is_landing_of (place_of t)) (own_landings n es ++ [])) && true) waits) refl (ap (λ b. b && true) (le-leb t.seen (length h') seen)))
+      (quiet pushed (taking_entry t ∷ []) a d (k.slips ∙ sym (handed_added n (taking_entry t ∷ []) es more a refl ∙ append-nil (handed_by n es))) (ap (λ w. (w || list_any (is_landing_of (place_of t)) (own_landings n es ++ [])) && true) waits) refl (ap (λ b. b && true) (le-leb t.seen (length h') seen)))
 
   -- the oldest kept answer was handed on
   pub kept_passed : (pushed : List Slip) (slip : Slip) → slice_get (kept_slips es) 0 ≡ Some slip → more ≡ es ++ Passed n ∷ [] → Continues (λ e. e.hand) n h h' → IsAtSession spec n es h made pushed → IsAtSession spec n more h' made (pushed ++ slip ∷ [])

@@ -10,43 +10,22 @@ use Rattle.std.proofs.lemmas.Option.{slice_get_within}
 use mathlib.Core.List.{IsPrefix}
 use Rattle.atomic_table.specs.Seated.{TableId}
 use Rattle.host_record.specs.declared.request.Request.{Request}
-use Rattle.host_record.specs.Request.{request_of}
-use Rattle.host_model.specs.Groups.{is_member}
-use Rattle.host_model.specs.Log.{request_at}
-use Rattle.host_group.specs.declared.seat.CellSeat.{CellSeat}
-use Rattle.host_group.specs.Seats.{IsRightOf, row}
-use Rattle.host_rings.specs.declared.envelope.Envelope.{Envelope}
+use Rattle.host_record.specs.{request_of}
+use Rattle.host_model.specs.{is_member, request_at}
+use Rattle.host_group.specs.{CellSeat, IsRightOf, row}
+use Rattle.host_rings.specs.{Envelope, SlipSenderState}
 use Rattle.host_record.specs.declared.status.Status.TheVariants as status
-use Rattle.host_rings.specs.AnswerEnds.{SlipSenderState}
-use Rattle.host_turn.specs.History.{Continues}
-use Rattle.host_turn.proofs.Histories.{prefix_trans}
-use Rattle.host_intake.specs.declared.entry.IntakeEntry.{IntakeEntry}
-use Rattle.host_intake.specs.declared.entry.IntakeEntry.TheVariants.{Landed}
-use Rattle.host_intake.specs.declared.entry.RecordEnd.{RecordEnd}
-use Rattle.host_intake.specs.declared.waiting.Waiting.{Waiting}
-use Rattle.host_intake.specs.Answers.{answer_owed}
-use Rattle.host_intake.specs.Entries.{Landing, Taking, is_landing_of, landings, maker_of, place_of, request_in, requests_of, taking_of, takings}
-use Rattle.host_intake.specs.Members.{is_lander, member_at}
-use Rattle.host_intake.specs.Rights.{AreSettled, HasRight}
-use Rattle.host_intake.specs.declared.entry.Phase.{Phase}
-use Rattle.host_intake.specs.declared.entry.Phase.TheVariants.{Running, Draining, Aborted, Closed}
-use Rattle.host_intake.specs.Intaken.{IsIntake}
-use Rattle.host_intake.specs.Ledgers.{is_shut}
-use Rattle.host_intake.specs.State.{IntakeState}
-use Rattle.host_intake.specs.Told.{is_flying, is_open, phase_in}
+use Rattle.host_log.specs.{Continues}
+use Rattle.host_log.proofs.Histories.{prefix_trans}
+use Rattle.host_intake.specs.{IntakeEntry, Landed, RecordEnd, Waiting, answer_owed, Landing, Taking, is_landing_of, landings, maker_of, place_of, request_in, requests_of, taking_of, takings, is_lander, member_at, AreSettled, HasRight, Phase, Running, Draining, Aborted, Closed, IsIntake, is_shut, IntakeState, is_flying, is_open, phase_in, AreWaiting, IsOfTaking, IsRecordWaiting, is_waiting_at}
 use Rattle.host_intake.proofs.Counting.{count_cut}
-use Rattle.host_intake.proofs.Ledgering.{and_left, and_right}
-use Rattle.host_intake.specs.Waits.{AreWaiting, IsOfTaking, IsWaiting, is_waiting_at}
+use Rattle.host_log.proofs.Bools.{and_left, and_right}
 use Rattle.host_intake.proofs.Admitting.{member_same}
 use Rattle.host_intake.proofs.Membering.{member_index}
-use Rattle.host_hand.specs.Ends.{HasLandedClose, HasLandedCloseInTurn, HasRightTo, IsInFlightBy, WasUsed, slips_pushed, with_slips}
+use Rattle.host_hand.specs.{HasLandedClose, HasLandedCloseInTurn, HasRightTo, IsInFlightBy, WasUsed, slips_pushed, sender_with_slips}
 use Rattle.host_hand.proofs.Entered.{taken_longer, taking_longer}
-use Rattle.host_hand.proofs.Growing.{added_turn}
-
--- none of a list passes
-none_at : {A : Type 0} (p : A → Bool) (xs : List A) → ((n : ℕ) (x : A) → slice_get xs n ≡ Some x → p x ≡ false) → list_any p xs ≡ false
-none_at p [] h = refl
-none_at p (x ∷ xs) h = ap (λ b. b || list_any p xs) (h 0 x refl) ∙ none_at p xs (λ n y e. h (suc n) y e)
+use Rattle.host_log.proofs.Growing.{added_turn}
+use Rattle.host_log.proofs.Places.{none_at}
 
 -- no close waits of a record that was taken without waiting
 pub none_waits : (cells : TableId) (ts : List Taking) (ls : List Landing) (ws : List Waiting) (i : ℕ) (t : Taking) → AreWaiting cells ts ls ws → slice_get ts i ≡ Some t → t.waits ≡ false → list_any (is_waiting_at i) ws ≡ false
@@ -55,7 +34,7 @@ none_waits cells ts ls ws i t k at still = none_at (is_waiting_at i) ws (λ n w 
     step : (w : Waiting) → (((w.envelope.index == i) ≡ true) × (w.envelope.index ≡ i)) ⊎ (((w.envelope.index == i) ≡ false) × (w.envelope.index ≢ i)) → IsOfTaking cells ts ls w → is_waiting_at i w ≡ false
     step w (inr s) m = s.0
     step w (inl s) m =
-        let x : IsWaiting cells ts ls w t = subst (λ (o : Option Taking). MatchOption o ⊥ (λ u. IsWaiting cells ts ls w u)) (ap (λ j. slice_get ts j) s.1 ∙ at) m in
+        let x : IsRecordWaiting cells ts ls w t = subst (λ (o : Option Taking). MatchOption o ⊥ (λ u. IsRecordWaiting cells ts ls w u)) (ap (λ j. slice_get ts j) s.1 ∙ at) m in
         absurd (let f : true ≡ false = sym x.waits ∙ still in cc)
 
 -- the request of a record that was taken
@@ -164,8 +143,8 @@ of_taking P (Some t) m = (t, refl, m)
 
 module _ (cells : TableId) (ts : List Taking) (ls : List Landing) (w : Waiting) (i : ℕ) (end : RecordEnd) (right : Option CellSeat) (index : w.envelope.index ≡ i) (m : IsOfTaking cells ts ls w)
     (used : WasUsed cells (request_of w.envelope.bytes) end w.right right) where
-  abbrev found : (t : Taking) × (slice_get ts w.envelope.index ≡ Some t) × IsWaiting cells ts ls w t
-  found = of_taking (λ t. IsWaiting cells ts ls w t) (slice_get ts w.envelope.index) m
+  abbrev found : (t : Taking) × (slice_get ts w.envelope.index ≡ Some t) × IsRecordWaiting cells ts ls w t
+  found = of_taking (λ t. IsRecordWaiting cells ts ls w t) (slice_get ts w.envelope.index) m
 
   place : place_of found.0 ≡ w.envelope.index
   place = ap (λ (e : Envelope). e.index) found.2.envelope
@@ -191,5 +170,5 @@ close_landed n index front old was mid new last s0 s s' c d is same k =
       kept = k.kept;
       added = a;
       waits = taking_longer (λ t. t.waits ≡ true) mid last index (entry ∷ [], sym (is ∙ k.entries)) k.waits;
-      sender = k.sender ∙ ap (λ x. with_slips x (slips_pushed k.kept k.answer)) same;
+      sender = k.sender ∙ ap (λ x. sender_with_slips x (slips_pushed k.kept k.answer)) same;
     }

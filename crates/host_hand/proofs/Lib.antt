@@ -1,4 +1,3 @@
-pub mod Growing
 pub mod Entered
 pub mod Framing
 pub mod Endings

@@ -2,20 +2,15 @@
 use Rattle.std.proofs.Common.{◌≡◌, ◌≢◌, ℕ, ◌≤◌, ◌&&◌, ◌==◌, cond, List, [], ◌∷◌, ◌++◌, length, filter, Some, refl, sym, ap, subst, ◌∙◌, ◌⊎◌, inl, inr, arith, append-nil, ne_eqb}
 use Rattle.std.specs.List.{All, slice_get}
 use Rattle.std.proofs.lemmas.List.Elements.{All-nil, All-head, All-tail, filter-append}
-use Rattle.host_model.specs.declared.memory.MemEntry.{MemEntry}
-use Rattle.host_model.specs.declared.step.Step.{Step}
-use Rattle.host_model.specs.Carrying.{carries_out, outcome_of}
-use Rattle.host_rings.specs.declared.slip.Slip.{Slip}
-use Rattle.host_turn.specs.History.{entries_of}
-use Rattle.host_intake.specs.declared.entry.IntakeEntry.{IntakeEntry}
-use Rattle.host_intake.specs.Entries.{Landing, request_in}
-use Rattle.host_session.specs.declared.spec.SessionSpec.{SessionSpec}
-use Rattle.host_hand.specs.Growth.{HasAdded}
-use Rattle.host_hand.specs.Kept.{IsAtSession, own_landings}
-use Rattle.host_session.specs.Moves.{moves_for, moves_owed}
-use Rattle.host_hand.specs.Records.{IsEnding, asks_in, steps_for}
+use Rattle.host_model.specs.{MemEntry, Step, carries_out, outcome_of}
+use Rattle.host_rings.specs.{Slip}
+use Rattle.host_log.specs.{entries_of, HasAdded}
+use Rattle.host_intake.specs.{IntakeEntry, Landing, request_in}
+use Rattle.host_session.specs.{SessionSpec, moves_for, moves_owed}
+use Rattle.host_hand.specs.{IsAtSession, own_landings, IsEndingRecord, asks_in, steps_for}
 use Rattle.host_hand.proofs.Endings.{all_map, is_step_of}
-use Rattle.host_hand.proofs.Growing.{longer_length, own_place}
+use Rattle.host_log.proofs.Growing.{own_place}
+use Rattle.host_log.proofs.Places.{longer_length}
 
 -- steps for another session are none for this one
 other_steps : (s i session : ℕ) (steps : List Step) → session ≢ s → All (λ (step : Step). step.session ≡ session) steps → filter (is_step_of s i) steps ≡ []
@@ -37,7 +32,7 @@ module _ (spec : SessionSpec) (session n : ℕ) (es : List IntakeEntry) (h : Lis
       sorted (inl o) = o
       sorted (inr q) = absurd (ne (sym q.1 ∙ mine))
 
-  other_ending : (l : Landing) → IsEnding spec.part spec.number n es h made l → IsEnding spec.part spec.number n es h made' l
+  other_ending : (l : Landing) → IsEndingRecord spec.part spec.number n es h made l → IsEndingRecord spec.part spec.number n es h made' l
   other_ending l (inr k) = inr k
   other_ending l (inl (t, k)) = inl (
     t,
@@ -63,7 +58,7 @@ module _ (spec : SessionSpec) (session n : ℕ) (es : List IntakeEntry) (h : Lis
     moves = k.moves;
     releases = k.releases;
     settled = k.settled;
-    endings = all_map (IsEnding spec.part spec.number n es h made) (IsEnding spec.part spec.number n es h made') (own_landings n es) other_ending k.endings;
+    endings = all_map (IsEndingRecord spec.part spec.number n es h made) (IsEndingRecord spec.part spec.number n es h made') (own_landings n es) other_ending k.endings;
     slips = k.slips;
     seen = k.seen;
   }
@@ -75,7 +70,7 @@ begun spec n = record {
   moves = λ p e at by. absurd (cc at);
   releases = λ p e at by. absurd (cc at);
   settled = refl;
-  endings = All-nil (IsEnding spec.part spec.number n [] [] []);
+  endings = All-nil (IsEndingRecord spec.part spec.number n [] [] []);
   slips = refl;
   seen = refl;
 }

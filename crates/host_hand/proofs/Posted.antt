@@ -1,24 +1,14 @@
 -- Where a hand stands, and what it takes from there.
 use Rattle.std.proofs.Common.{◌≡◌, ℕ, List, Some, sym, ap, subst, ◌∙◌}
 use Rattle.atomic_table.specs.Seated.{TableId}
-use Rattle.host_memory.specs.declared.limits.MemoryPlan.{MemoryPlan}
-use Rattle.host_intake.specs.declared.entry.IntakeEntry.{IntakeEntry}
-use Rattle.host_model.specs.declared.memory.MemEntry.{MemEntry}
-use Rattle.host_model.specs.declared.step.Step.{Step}
-use Rattle.host_rings.specs.declared.envelope.Envelope.{Envelope}
-use Rattle.host_rings.specs.declared.slip.Slip.{Slip}
-use Rattle.host_turn.specs.Seats.{book_id}
-use Rattle.host_session.specs.declared.hand.SessionHand.{SessionHand}
-use Rattle.host_session.specs.declared.shared.SessionShared.{SessionShared}
-use Rattle.host_session.specs.declared.spec.SessionSpec.{SessionSpec}
-use Rattle.host_session.specs.Plan.{IsHand, SessionPlan, intake_plan, memory_plan}
+use Rattle.host_memory.specs.{MemoryPlan}
+use Rattle.host_intake.specs.{IntakeEntry}
+use Rattle.host_model.specs.{MemEntry, Step}
+use Rattle.host_rings.specs.{Envelope, Slip}
+use Rattle.host_turn.specs.{book_id}
+use Rattle.host_session.specs.{SessionHand, SessionShared, SessionSpec, IsHand, SessionPlan, intake_plan, memory_plan}
 use Rattle.host_session.proofs.Visiting.{seat_still}
-use Rattle.host_hand.specs.declared.job.Job.{Job}
-use Rattle.host_hand.specs.Buffers.{IsAtBuffers, IsOfPool}
-use Rattle.host_hand.specs.Errands.{errand_of}
-use Rattle.host_hand.specs.Jobs.{HasJob}
-use Rattle.host_hand.specs.Posts.{IsPosted, IsSameHand}
-use Rattle.host_hand.specs.Works.{IsWork}
+use Rattle.host_hand.specs.{Job, IsAtBuffers, IsOfPool, errand_of, HasJob, IsPosted, IsSameHand, IsWork}
 
 pub hand_still : (p : SessionPlan) (n : ℕ) (old new : SessionHand) → IsHand p n old → IsSameHand old new → IsHand p n new
 hand_still p n old new k s = record {

@@ -7,51 +7,23 @@ use Rattle.std.proofs.lemmas.Bool.{eqb-true}
 use Rattle.std.proofs.lemmas.Option.{slice_get_within}
 use Rattle.std.proofs.lemmas.List.Elements.{All-nil, All-cons}
 use Rattle.atomic_table.specs.Seated.{TableId}
-use Rattle.host_device.specs.declared.fixed.DeviceFixed.{DeviceFixed}
-use Rattle.host_frames.specs.declared.seat.PoolSeat.{PoolSeat}
-use Rattle.host_frames.specs.Seats.{given_back}
-use Rattle.host_intake.specs.declared.entry.IntakeEntry.{IntakeEntry}
-use Rattle.host_intake.specs.declared.entry.IntakeEntry.TheVariants.{Passed}
-use Rattle.host_intake.specs.declared.entry.Phase.{Phase}
-use Rattle.host_intake.specs.declared.entry.Phase.TheVariants.{Running, Draining, Aborted, Closed}
-use Rattle.host_intake.specs.Admissions.{entry_for}
-use Rattle.host_intake.specs.Entries.{Taking, maker_of, request_in, takings}
-use Rattle.host_intake.specs.Ledgers.{is_shut}
-use Rattle.host_intake.specs.Told.{phase_in}
-use Rattle.host_model.specs.declared.memory.MemEntry.{MemEntry}
-use Rattle.host_memory.specs.Pins.{is_done_for}
-use Rattle.host_memory.specs.State.{events}
-use Rattle.host_model.specs.declared.memory.MemEvent.{MemEvent}
-use Rattle.host_model.specs.declared.memory.MemEvent.TheVariants.{Attach, Fill, Show, Pin, Lift, Land, Done, Release}
+use Rattle.host_device.specs.{DeviceFixed}
+use Rattle.host_frames.specs.{PoolSeat, given_back}
+use Rattle.host_intake.specs.{IntakeEntry, Passed, Phase, Running, Draining, Aborted, Closed, taking_entry, Taking, maker_of, request_in, takings, is_shut, phase_in}
+use Rattle.host_model.specs.{MemEntry, MemEvent, Attach, Fill, Show, Pin, Lift, Land, Done, Release, Step, index_of, count, is_accepted}
+use Rattle.host_memory.specs.{is_done_for, events}
 use Rattle.host_model.specs.declared.memory.MemEvent.TheVariants as mem
-use Rattle.host_model.specs.declared.step.Step.{Step}
-use Rattle.host_model.specs.RecordEntries.{index_of}
-use Rattle.host_model.specs.Lists.{count}
-use Rattle.host_model.specs.Verdict.{is_accepted}
-use Rattle.host_record.specs.Command.{opcode, is_close}
-use Rattle.host_rings.specs.declared.slip.Slip.{Slip}
-use Rattle.host_rings.specs.AnswerEnds.{SlipSenderState}
-use Rattle.host_turn.specs.declared.seat.BookSeat.{BookSeat}
-use Rattle.host_turn.specs.History.{Continues, entries_of}
-use Rattle.host_turn.specs.Seats.{IsOutside, seen_by}
-use Rattle.host_turn.proofs.Histories.{prefix_refl, prefix_trans}
-use Rattle.host_session.specs.declared.hand.SessionHand.{SessionHand}
-use Rattle.host_session.specs.declared.spec.SessionSpec.{SessionSpec}
+use Rattle.host_record.specs.{opcode, is_close}
+use Rattle.host_rings.specs.{Slip, SlipSenderState}
+use Rattle.host_turn.specs.{BookSeat, IsOutside, seen_by}
+use Rattle.host_log.specs.{Continues, entries_of, HasAdded}
+use Rattle.host_log.proofs.Histories.{prefix_refl, prefix_trans}
+use Rattle.host_session.specs.{SessionHand, SessionSpec}
 use Rattle.host_session.proofs.Turning.{same_seat}
-use Rattle.host_hand.specs.declared.job.Job.{Job}
-use Rattle.host_hand.specs.declared.visit.Visit.{Visit}
+use Rattle.host_hand.specs.{Job, Visit, frames_out, is_closer, HasDoneBelow, HasJob, HasPassed, HasTakenNext, IsJobOf, IsAtSession, KeepsSession, IsSameHand, KeepsClaims, IsMoveTaken, IsPastTaking, IsTakenBy, HasServed, HasStepped, CannotTake, HasSeenMore, IsVisitTold, begun_by, done_at, is_begun, is_closed_visit, pages_with}
 use Rattle.host_hand.specs.declared.visit.Visit.TheVariants as visit
-use Rattle.host_hand.specs.Frames.{frames_out, is_closer}
-use Rattle.host_hand.specs.Growth.{HasAdded}
-use Rattle.host_hand.specs.Jobs.{HasDoneBelow, HasJob, HasPassed, HasTakenNext, IsJobOf}
-use Rattle.host_hand.specs.Kept.{IsAtSession, KeepsSession}
-use Rattle.host_hand.specs.Posts.{IsSameHand, KeepsClaims}
-use Rattle.host_hand.specs.Records.{IsMoveTaken, IsPastTaking, IsTakenBy}
-use Rattle.host_hand.specs.Serves.{HasServed, HasStepped}
-use Rattle.host_hand.specs.Visits.{CannotTake, HasNothingToPass, HasSeenMore, IsTold, begun_by, done_at, is_begun, is_closed}
-use Rattle.host_hand.specs.Works.{pages_with}
 use Rattle.host_hand.proofs.Framing.{closed_added, one_closer, out_still}
-use Rattle.host_hand.proofs.Growing.{added_nothing, added_refl, added_turn}
+use Rattle.host_log.proofs.Growing.{added_nothing, added_refl, added_turn}
 use Rattle.host_hand.proofs.Keeping.{begun_added, kept_later, kept_passed, kept_waiting, taken_added}
 
 -- ---- the hand and its seats
@@ -88,7 +60,7 @@ shut_closed Closed e = refl
 
 -- ---- a visit that took nothing to carry out
 
-module _ {S D : Type 0} (spec : SessionSpec) (n : ℕ) (old new : SessionHand) (seat : BookSeat S Step (DeviceFixed D)) (pool : PoolSeat) (before : List IntakeEntry)
+module _ {S D : Type 0} (spec : SessionSpec) (told n : ℕ) (old new : SessionHand) (seat : BookSeat S Step (DeviceFixed D)) (pool : PoolSeat) (before : List IntakeEntry)
     (same : IsSameHand old new) (out : IsOutside seat) (keeps : KeepsSession spec n old (seen_by seat))
     (later : Continues maker_of n (seen_by old.intake) before) (buffers : Continues (λ e. e.hand) n (seen_by old.memory) (seen_by new.memory)) where
   -- what it kept goes on to what it found
@@ -97,8 +69,8 @@ module _ {S D : Type 0} (spec : SessionSpec) (n : ℕ) (old new : SessionHand) (
 
   -- its own entries are these more
   visited : (added : List IntakeEntry) (answer : Visit) → HasAdded maker_of n added (seen_by old.intake) (seen_by new.intake) → filter is_closer (takings added) ≡ [] → count is_begun added ≡ done_at answer
-      → is_closed answer ≡ is_shut (phase_in (seen_by new.intake)) → IsTold answer (seen_by new.intake) new.sender → KeepsSession spec n new (seen_by seat) → HasServed spec n old new seat seat pool pool answer
-  visited added answer a none begun closed told k = record {
+      → is_closed_visit answer ≡ is_shut (phase_in (seen_by new.intake)) → IsVisitTold told answer (seen_by new.intake) → KeepsSession spec n new (seen_by seat) → HasServed spec n old new seat seat pool pool told answer
+  visited added answer a none begun closed tells k = record {
     hand = same;
     more = record { intake = a.begins; buffers = buffers.0 };
     stepped = stepped_nothing spec.number n seat out;
@@ -107,7 +79,7 @@ module _ {S D : Type 0} (spec : SessionSpec) (n : ℕ) (old new : SessionHand) (
     frames = ap (λ x. given_back pool + x) (sym (out_still n (seen_by old.intake) (seen_by new.intake) (seen_by old.memory) (seen_by new.memory) added a none buffers keeps.seen));
     begun = begun_added n added (seen_by old.intake) (seen_by new.intake) a ∙ ap (λ x. begun_by n (seen_by old.intake) + x) begun;
     closed = closed;
-    told = told;
+    told = tells;
   }
 
   nothing_more : seen_by new.intake ≡ before → HasAdded maker_of n [] (seen_by old.intake) (seen_by new.intake)
@@ -117,25 +89,25 @@ module _ {S D : Type 0} (spec : SessionSpec) (n : ℕ) (old new : SessionHand) (
   still_kept is sender = subst (λ (s : SlipSenderState). IsAtSession spec n (seen_by new.intake) (seen_by new.memory) (seen_by seat) s.pushed) (sym sender)
       (subst (λ l. IsAtSession spec n l (seen_by new.memory) (seen_by seat) old.sender.pushed) (sym is) found_kept)
 
-  pub closed_served : new.sender ≡ old.sender → seen_by new.intake ≡ before → is_shut (phase_in (seen_by new.intake)) ≡ true → HasServed spec n old new seat seat pool pool visit.Closed
+  pub closed_served : new.sender ≡ old.sender → seen_by new.intake ≡ before → is_shut (phase_in (seen_by new.intake)) ≡ true → HasServed spec n old new seat seat pool pool told visit.Closed
   closed_served sender is shut = visited [] visit.Closed (nothing_more is) refl refl (sym shut) (shut_closed (phase_in (seen_by new.intake)) shut) (still_kept is sender)
 
-  pub idle_served : new.sender ≡ old.sender → seen_by new.intake ≡ before → is_shut (phase_in (seen_by new.intake)) ≡ false → HasNothingToPass (seen_by new.intake) new.sender → CannotTake (seen_by new.intake) → HasServed spec n old new seat seat pool pool visit.Idle
-  idle_served sender is shut pass take = visited [] visit.Idle (nothing_more is) refl refl (sym shut) (pass, take) (still_kept is sender)
+  pub idle_served : new.sender ≡ old.sender → seen_by new.intake ≡ before → is_shut (phase_in (seen_by new.intake)) ≡ false → CannotTake told (seen_by new.intake) → HasServed spec n old new seat seat pool pool told visit.Idle
+  idle_served sender is shut take = visited [] visit.Idle (nothing_more is) refl refl (sym shut) take (still_kept is sender)
 
-  pub passed_served : HasPassed n before (seen_by new.intake) old.sender new.sender → is_shut (phase_in (seen_by new.intake)) ≡ false → HasServed spec n old new seat seat pool pool visit.Did
+  pub passed_served : HasPassed n before (seen_by new.intake) old.sender new.sender → is_shut (phase_in (seen_by new.intake)) ≡ false → HasServed spec n old new seat seat pool pool told visit.Did
   passed_served p shut =
       visited (Passed n ∷ []) visit.Did (added_turn maker_of n (Passed n ∷ []) (seen_by old.intake) before (seen_by new.intake) later p.entries (All-cons (λ e. maker_of e ≡ n) (Passed n) [] refl (All-nil (λ e. maker_of e ≡ n)))) refl refl (sym shut) tt
       (subst (λ (s : SlipSenderState). IsAtSession spec n (seen_by new.intake) (seen_by new.memory) (seen_by seat) s.pushed) (sym p.sender)
       (kept_passed spec n before (seen_by new.intake) (seen_by new.memory) (seen_by new.memory) (seen_by seat) old.sender.pushed p.slip p.oldest p.entries (prefix_refl (seen_by new.memory), refl) found_kept))
 
   -- the taking of a record
-  taken_entry : (t : Taking) → HasTakenNext n spec.part before (seen_by new.intake) (seen_by new.memory) t → HasAdded maker_of n (entry_for t ∷ []) (seen_by old.intake) (seen_by new.intake)
-  taken_entry t k = added_turn maker_of n (entry_for t ∷ []) (seen_by old.intake) before (seen_by new.intake) later k.entries (All-cons (λ e. maker_of e ≡ n) (entry_for t) [] k.by (All-nil (λ e. maker_of e ≡ n)))
+  taken_entry : (t : Taking) → HasTakenNext n spec.part before (seen_by new.intake) (seen_by new.memory) t → HasAdded maker_of n (taking_entry t ∷ []) (seen_by old.intake) (seen_by new.intake)
+  taken_entry t k = added_turn maker_of n (taking_entry t ∷ []) (seen_by old.intake) before (seen_by new.intake) later k.entries (All-cons (λ e. maker_of e ≡ n) (taking_entry t) [] k.by (All-nil (λ e. maker_of e ≡ n)))
 
-  pub waits_served : (t : Taking) → new.sender ≡ old.sender → is_shut (phase_in (seen_by new.intake)) ≡ false → HasTakenNext n spec.part before (seen_by new.intake) (seen_by new.memory) t → t.waits ≡ true → HasServed spec n old new seat seat pool pool visit.Did
+  pub waits_served : (t : Taking) → new.sender ≡ old.sender → is_shut (phase_in (seen_by new.intake)) ≡ false → HasTakenNext n spec.part before (seen_by new.intake) (seen_by new.memory) t → t.waits ≡ true → HasServed spec n old new seat seat pool pool told visit.Did
   waits_served t sender shut k waits =
-      visited (entry_for t ∷ []) visit.Did (taken_entry t k) (no_closer t waits) refl (sym shut) tt
+      visited (taking_entry t ∷ []) visit.Did (taken_entry t k) (no_closer t waits) refl (sym shut) tt
       (subst (λ (s : SlipSenderState). IsAtSession spec n (seen_by new.intake) (seen_by new.memory) (seen_by seat) s.pushed) (sym sender)
       (kept_waiting spec n before (seen_by new.intake) (seen_by new.memory) (seen_by new.memory) (seen_by seat) old.sender.pushed t k.by waits k.judged.seen k.entries (prefix_refl (seen_by new.memory), refl) found_kept))
     where
@@ -159,12 +131,12 @@ module _ {S D : Type 0} (spec : SessionSpec) (n : ℕ) (old new : SessionHand) (
     pages_came : frames_out n new ≡ frames_out n old + pages_with job.work
     pages_came =
         let still = out_still n (seen_by old.intake) before (seen_by old.memory) (seen_by new.memory) [] (added_nothing maker_of n (seen_by old.intake) before later) refl buffers keeps.seen in
-        let more = closed_added n (entry_for t ∷ []) before (seen_by new.intake) (seen_by new.memory) (taken_added n before (seen_by new.intake) t k.by k.entries) in
+        let more = closed_added n (taking_entry t ∷ []) before (seen_by new.intake) (seen_by new.memory) (taken_added n before (seen_by new.intake) t k.by k.entries) in
         let one = one_closer (seen_by new.memory) t in
         omega (arith, j.pages)
 
     pub job_served : (last : SessionHand) (seat' : BookSeat S Step (DeviceFixed D)) (pool' : PoolSeat) → IsSameHand new last → HasStepped spec.number n seat seat' → KeepsClaims pool pool' → KeepsSession spec n last (seen_by seat') → HasSeenMore new last
-        → given_back pool' + frames_out n new ≡ given_back pool + pages_with job.work + frames_out n last → begun_by n (seen_by last.intake) ≡ begun_by n (seen_by new.intake) → is_shut (phase_in (seen_by last.intake)) ≡ false → HasServed spec n old last seat seat' pool pool' visit.Did
+        → given_back pool' + frames_out n new ≡ given_back pool + pages_with job.work + frames_out n last → begun_by n (seen_by last.intake) ≡ begun_by n (seen_by new.intake) → is_shut (phase_in (seen_by last.intake)) ≡ false → HasServed spec n old last seat seat' pool pool' told visit.Did
     job_served last seat' pool' hand stepped claims kept more frames begun shut = record {
       hand = same_hand old new last same hand;
       more = seen_more old new last (record { intake = (taken_entry t k).begins; buffers = buffers.0 }) more;
@@ -172,7 +144,7 @@ module _ {S D : Type 0} (spec : SessionSpec) (n : ℕ) (old new : SessionHand) (
       keeps = kept;
       claims = claims;
       frames = let came = pages_came in omega arith;
-      begun = begun ∙ begun_added n (entry_for t ∷ []) (seen_by old.intake) (seen_by new.intake) (taken_entry t k);
+      begun = begun ∙ begun_added n (taking_entry t ∷ []) (seen_by old.intake) (seen_by new.intake) (taken_entry t k);
       closed = sym shut;
       told = tt;
     }

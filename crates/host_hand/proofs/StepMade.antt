@@ -2,13 +2,10 @@
 use Rattle.std.proofs.Common.{◌≡◌, ℕ, ◌≤◌, Bool, true, false, Result, Ok, Err, List, [], ◌++◌, length, sym, ap, subst, ◌∙◌, arith}
 use Rattle.std.specs.List.{All}
 use Rattle.std.proofs.lemmas.List.Elements.{All-nil, All-cons}
-use Rattle.host_device.specs.declared.error.StepError.{StepError}
-use Rattle.host_device.specs.declared.error.StepError.TheVariants.{Fault, Oom}
-use Rattle.host_device.specs.Entries.{entries_added}
-use Rattle.host_model.specs.declared.step.Step.{Step}
-use Rattle.host_turn.specs.History.{Continues}
-use Rattle.host_hand.specs.Growth.{HasGrown}
-use Rattle.host_hand.proofs.Growing.{grown_turn}
+use Rattle.host_device.specs.{StepError, Fault, Oom, entries_added}
+use Rattle.host_model.specs.{Step}
+use Rattle.host_log.specs.{Continues, HasGrown}
+use Rattle.host_log.proofs.Growing.{grown_turn}
 
 pub all_added : (P : Step → Type 0) (answer : Result Unit StepError) (entry : Bool → Step) → ((b : Bool) → P (entry b)) → All P (entries_added answer entry)
 all_added P (Ok x) entry each = All-cons P (entry false) [] (each false) (All-nil P)

@@ -10,7 +10,7 @@ use Rattle.host_model.specs.Carrying.{Ask}
 use Rattle.host_hand.specs.declared.errand.Errand.{Errand}
 use Rattle.host_hand.specs.declared.run.Run.{Run}
 use Rattle.host_hand.specs.Buffers.{IsHeld}
-use Rattle.host_hand.specs.Growth.{HasGrown}
+use Rattle.host_log.specs.Growth.{HasGrown}
 use Rattle.host_hand.specs.Runs.{IsRun}
 
 -- a read or write holds its buffer; a trim needs none, and a flush has no blocks
@@ -21,11 +21,12 @@ HoldsFor Trim e h = Unit {0}
 HoldsFor Flush e h = ⊥
 
 -- the record lies within its partition
-abbrev pub IsInside : Errand → Type 0
-IsInside e = e.request.dev_offset + e.request.length ≤ e.part.count
+abbrev pub IsErrandInside : Errand → Type 0
+IsErrandInside e = e.request.dev_offset + e.request.length ≤ e.part.count
 
 -- A read's step was made, and its page landed, while the turn of the buffers was kept.
-pub record HasRunInTurn (e : Errand) (op : Op) (from : ℕ) (asks : List Ask) (run : Run) (old_h new_h : List MemEntry) (old_s new_s : List Step) : Type 0 where
+pub record HasRunInTurn (e : Errand) (op : Op) (from : ℕ) (asks : List Ask) (run : Run)
+    (old_h new_h : List MemEntry) (old_s new_s : List Step) : Type 0 where
   pub steps : List Step
   pub moves : List MemEvent
   pub run_is : IsRun e op from asks steps moves run.answer

@@ -18,9 +18,10 @@ pub record IsOnDevice {D : Type 0} (part : Range) (size : ℕ) (fixed : DeviceFi
   pub size_is : fixed.size ≡ size
   pub within : part.first + part.count ≤ fixed.blocks
 
--- A seat at the device that has neither a ticket nor the turn, with this number. The partition's blocks have numbers of 64
--- bits, and lie in the device.
-pub record IsAtDevice {S E D : Type 0} (book : TableId) (n : ℕ) (part : Range) (size : ℕ) (seat : BookSeat S E (DeviceFixed D)) : Type 0 where
+-- A seat at the device that has neither a ticket nor the turn, with this number. The partition's
+-- blocks have numbers of 64 bits, and lie in the device.
+pub record IsAtDevice {S E D : Type 0} (book : TableId) (n : ℕ) (part : Range) (size : ℕ)
+    (seat : BookSeat S E (DeviceFixed D)) : Type 0 where
   pub book_is : seat_book seat ≡ book
   pub outside : IsOutside seat
   pub number_is : number seat ≡ n
@@ -28,7 +29,8 @@ pub record IsAtDevice {S E D : Type 0} (book : TableId) (n : ℕ) (part : Range)
   pub on_device : ForSome (fixed_part seat) (λ fixed. IsOnDevice part size fixed)
 
 -- The hand is of this session, which was opened with this spec and has its pages of this pool.
-pub record IsPosted (spec : SessionSpec) (n : ℕ) (pool : TableId × ℕ) (shared : SessionShared) (hand : SessionHand) : Type 0 where
+pub record IsPosted (spec : SessionSpec) (n : ℕ) (pool : TableId × ℕ) (shared : SessionShared)
+    (hand : SessionHand) : Type 0 where
   pub plan : SessionPlan
   pub spec_is : plan.spec ≡ spec
   pub pool_is : plan.pool ≡ pool

@@ -21,4 +21,5 @@ work_for None pages = None
 -- the record in this envelope is taken to do this, or waits where there is nothing to do yet
 abbrev pub next_for : Envelope → Option CellSeat → Option Work → Next
 next_for envelope right None = next.Waits
-next_for envelope right (Some work) = next.Took (record { envelope = envelope; work = work; right = right })
+next_for envelope right (Some work) =
+    next.Took (record { envelope = envelope; work = work; right = right })

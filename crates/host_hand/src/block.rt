@@ -4,14 +4,14 @@ ghost use Rattle.host_block.specs.declared.op.Op.TheVariants.{Read, Write};
 ghost use Rattle.host_intake.specs.Takings.{under};
 ghost use Rattle.host_memory.specs.Pins.{is_pinned_by};
 ghost use Rattle.host_memory.specs.Held.{is_block_of};
-ghost use Rattle.host_memory.specs.State.{history, size_of};
+ghost use Rattle.host_memory.specs.State.{history, block_size_of};
 ghost use Rattle.host_model.specs.RecordEntries.{lift_for};
-ghost use Rattle.host_turn.specs.History.{Adds};
+ghost use Rattle.host_log.specs.History.{Adds};
 ghost use Rattle.host_turn.specs.Seats.{IsOutside, IsSameSeat, book_id, seen_by};
-ghost use Rattle.host_hand.specs.Blocks.{HasRunInTurn, HoldsFor, IsInside};
+ghost use Rattle.host_hand.specs.Blocks.{HasRunInTurn, HoldsFor, IsErrandInside};
 ghost use Rattle.host_hand.specs.Buffers.{IsAtBuffers, IsHeld};
 ghost use Rattle.host_hand.specs.Errands.{ask_at, asks_upto};
-ghost use Rattle.host_hand.specs.Growth.{HasGrown};
+ghost use Rattle.host_log.specs.Growth.{HasGrown};
 ghost use Rattle.host_hand.specs.Posts.{IsAtDevice};
 ghost use Rattle.host_hand.specs.Runs.{HasRun};
 
@@ -29,7 +29,8 @@ use host_turn::{Book, BookSeat};
 use std::alloc::Global;
 use std::sync::Wait;
 
-/// Makes the steps on all blocks of a record, in rising order, until one fails or memory is refused.
+/// Makes the steps on all blocks of a record, in rising order, until one fails or memory is
+/// refused.
 pub(crate) fn carry_blocks<D: Disk, R: Wait>(
     rt: &R,
     alloc: Global,
@@ -40,13 +41,18 @@ pub(crate) fn carry_blocks<D: Disk, R: Wait>(
     errand: &Errand,
     op: Op,
 ) -> Run
-    requires buffers { IsAtBuffers (book_id memory.now) errand.now.hand errand.now.size memory_seat.old }
-    requires device { IsAtDevice (book_id device.now) errand.now.hand errand.now.part errand.now.size device_seat.old }
+    requires buffers { IsAtBuffers (book_id memory.now) errand.now.hand errand.now.size
+        memory_seat.old }
+    requires device { IsAtDevice (book_id device.now) errand.now.hand errand.now.part
+        errand.now.size device_seat.old }
     requires held { HoldsFor op errand.now (seen_by memory_seat.old) }
-    requires inside { IsInside errand.now }
-    ensures seats { IsSameSeat memory_seat.old memory_seat.new × IsOutside memory_seat.new × IsSameSeat device_seat.old device_seat.new × IsOutside device_seat.new }
+    requires inside { IsErrandInside errand.now }
+    ensures seats { IsSameSeat memory_seat.old memory_seat.new × IsOutside memory_seat.new
+        × IsSameSeat device_seat.old device_seat.new × IsOutside device_seat.new }
     ensures held { HoldsFor op errand.now (seen_by memory_seat.new) }
-    ensures run { HasRun errand.now op 0 (asks_upto errand.now op errand.now.request.length) result (seen_by memory_seat.old) (seen_by memory_seat.new) (seen_by device_seat.old) (seen_by device_seat.new) }
+    ensures run { HasRun errand.now op 0 (asks_upto errand.now op errand.now.request.length) result
+        (seen_by memory_seat.old) (seen_by memory_seat.new) (seen_by device_seat.old)
+        (seen_by device_seat.new) }
 {
     let mut front = 0;
     for k in 0..errand.request.length {
@@ -85,14 +91,19 @@ fn carry_block<D: Disk, R: Wait>(
     k: u32,
     front: u64,
 ) -> Run
-    requires buffers { IsAtBuffers (book_id memory.now) errand.now.hand errand.now.size memory_seat.old }
-    requires device { IsAtDevice (book_id device.now) errand.now.hand errand.now.part errand.now.size device_seat.old }
+    requires buffers { IsAtBuffers (book_id memory.now) errand.now.hand errand.now.size
+        memory_seat.old }
+    requires device { IsAtDevice (book_id device.now) errand.now.hand errand.now.part
+        errand.now.size device_seat.old }
     requires held { HoldsFor op errand.now (seen_by memory_seat.old) }
-    requires block { IsInside errand.now × (k < errand.now.request.length) }
+    requires block { IsErrandInside errand.now × (k < errand.now.request.length) }
     requires front { front ≤ length (seen_by device_seat.old) }
-    ensures seats { IsSameSeat memory_seat.old memory_seat.new × IsOutside memory_seat.new × IsSameSeat device_seat.old device_seat.new × IsOutside device_seat.new }
+    ensures seats { IsSameSeat memory_seat.old memory_seat.new × IsOutside memory_seat.new
+        × IsSameSeat device_seat.old device_seat.new × IsOutside device_seat.new }
     ensures held { HoldsFor op errand.now (seen_by memory_seat.new) }
-    ensures run { HasRun errand.now op k (ask_at errand.now op k ∷ []) result (seen_by memory_seat.old) (seen_by memory_seat.new) (seen_by device_seat.old) (seen_by device_seat.new) }
+    ensures run { HasRun errand.now op k (ask_at errand.now op k ∷ []) result
+        (seen_by memory_seat.old) (seen_by memory_seat.new) (seen_by device_seat.old)
+        (seen_by device_seat.new) }
     ensures front { front ≤ result.front }
 {
     match op {
@@ -132,7 +143,8 @@ fn carry_block<D: Disk, R: Wait>(
     }
 }
 
-// One block of a read. The turn of the buffers is kept from making room for the landing until it is made.
+// One block of a read. The turn of the buffers is kept from making room for the landing until it is
+// made.
 fn read_block<D: Disk, R: Wait>(
     rt: &R,
     alloc: Global,
@@ -144,14 +156,19 @@ fn read_block<D: Disk, R: Wait>(
     k: u32,
     front: u64,
 ) -> Run
-    requires buffers { IsAtBuffers (book_id book.now) errand.now.hand errand.now.size memory_seat.old }
-    requires device { IsAtDevice (book_id device.now) errand.now.hand errand.now.part errand.now.size device_seat.old }
+    requires buffers { IsAtBuffers (book_id book.now) errand.now.hand errand.now.size
+        memory_seat.old }
+    requires device { IsAtDevice (book_id device.now) errand.now.hand errand.now.part
+        errand.now.size device_seat.old }
     requires held { IsHeld errand.now (seen_by memory_seat.old) }
-    requires block { IsInside errand.now × (k < errand.now.request.length) }
+    requires block { IsErrandInside errand.now × (k < errand.now.request.length) }
     requires front { front ≤ length (seen_by device_seat.old) }
-    ensures seats { IsSameSeat memory_seat.old memory_seat.new × IsOutside memory_seat.new × IsSameSeat device_seat.old device_seat.new × IsOutside device_seat.new }
+    ensures seats { IsSameSeat memory_seat.old memory_seat.new × IsOutside memory_seat.new
+        × IsSameSeat device_seat.old device_seat.new × IsOutside device_seat.new }
     ensures held { IsHeld errand.now (seen_by memory_seat.new) }
-    ensures run { HasRun errand.now Read k (ask_at errand.now Read k ∷ []) result (seen_by memory_seat.old) (seen_by memory_seat.new) (seen_by device_seat.old) (seen_by device_seat.new) }
+    ensures run { HasRun errand.now Read k (ask_at errand.now Read k ∷ []) result
+        (seen_by memory_seat.old) (seen_by memory_seat.new) (seen_by device_seat.old)
+        (seen_by device_seat.new) }
     ensures front { front ≤ result.front }
 {
     let mut memory = book.enter_past(rt, memory_seat, errand.memory_front);
@@ -184,14 +201,18 @@ fn read_in_turn<D: Disk, R: Wait>(
     page: u32,
     front: u64,
 ) -> Run
-    requires pinned { IsTrue (is_pinned_by errand.now.hand errand.now.index errand.now.request.vmoid (history memory.old)) }
-    requires page { IsTrue (is_block_of errand.now.request.vmoid (history memory.old) page) × (page ≡ errand.now.request.vmo_offset + k) }
-    requires size { size_of memory.old ≡ errand.now.size }
-    requires device { IsAtDevice (book_id device.now) errand.now.hand errand.now.part errand.now.size device_seat.old }
-    requires block { IsInside errand.now × (k < errand.now.request.length) }
+    requires pinned { IsTrue (is_pinned_by errand.now.hand errand.now.index errand.now.request.vmoid
+        (history memory.old)) }
+    requires page { IsTrue (is_block_of errand.now.request.vmoid (history memory.old) page)
+        × (page ≡ errand.now.request.vmo_offset + k) }
+    requires size { block_size_of memory.old ≡ errand.now.size }
+    requires device { IsAtDevice (book_id device.now) errand.now.hand errand.now.part
+        errand.now.size device_seat.old }
+    requires block { IsErrandInside errand.now × (k < errand.now.request.length) }
     requires front { front ≤ length (seen_by device_seat.old) }
     ensures seat { IsSameSeat device_seat.old device_seat.new × IsOutside device_seat.new }
-    ensures run { HasRunInTurn errand.now Read k (ask_at errand.now Read k ∷ []) result memory.old.entries memory.new.entries (seen_by device_seat.old) (seen_by device_seat.new) }
+    ensures run { HasRunInTurn errand.now Read k (ask_at errand.now Read k ∷ []) result
+        memory.old.entries memory.new.entries (seen_by device_seat.old) (seen_by device_seat.new) }
     ensures front { front ≤ result.front }
     ensures plan { memory.new.plan ≡ memory.old.plan }
     ensures adds { Adds (λ e. e.hand) errand.now.hand memory.old.entries memory.new.entries }
@@ -246,14 +267,19 @@ fn write_block<D: Disk, R: Wait>(
     k: u32,
     front: u64,
 ) -> Run
-    requires buffers { IsAtBuffers (book_id book.now) errand.now.hand errand.now.size memory_seat.old }
-    requires device { IsAtDevice (book_id device.now) errand.now.hand errand.now.part errand.now.size device_seat.old }
+    requires buffers { IsAtBuffers (book_id book.now) errand.now.hand errand.now.size
+        memory_seat.old }
+    requires device { IsAtDevice (book_id device.now) errand.now.hand errand.now.part
+        errand.now.size device_seat.old }
     requires held { IsHeld errand.now (seen_by memory_seat.old) }
-    requires block { IsInside errand.now × (k < errand.now.request.length) }
+    requires block { IsErrandInside errand.now × (k < errand.now.request.length) }
     requires front { front ≤ length (seen_by device_seat.old) }
-    ensures seats { IsSameSeat memory_seat.old memory_seat.new × IsOutside memory_seat.new × IsSameSeat device_seat.old device_seat.new × IsOutside device_seat.new }
+    ensures seats { IsSameSeat memory_seat.old memory_seat.new × IsOutside memory_seat.new
+        × IsSameSeat device_seat.old device_seat.new × IsOutside device_seat.new }
     ensures held { IsHeld errand.now (seen_by memory_seat.new) }
-    ensures run { HasRun errand.now Write k (ask_at errand.now Write k ∷ []) result (seen_by memory_seat.old) (seen_by memory_seat.new) (seen_by device_seat.old) (seen_by device_seat.new) }
+    ensures run { HasRun errand.now Write k (ask_at errand.now Write k ∷ []) result
+        (seen_by memory_seat.old) (seen_by memory_seat.new) (seen_by device_seat.old)
+        (seen_by device_seat.new) }
     ensures front { front ≤ result.front }
 {
     let Ok(piece) = lift_page(rt, alloc, book, memory_seat, errand, k) else {
@@ -285,8 +311,13 @@ fn lift_page<R: Wait>(
     requires block { k < errand.now.request.length }
     ensures seat { IsSameSeat seat.old seat.new × IsOutside seat.new }
     ensures held { IsHeld errand.now (seen_by seat.new) }
-    ensures lifted { IfOk result (λ piece. (length piece ≡ errand.now.size) × HasGrown (λ e. e.hand) errand.now.hand errand.now.memory_front (length (seen_by seat.new)) (under errand.now.hand (lift_for errand.now.index errand.now.request k piece ∷ [])) (seen_by seat.old) (seen_by seat.new)) }
-    ensures refused { OnErr result (HasGrown (λ e. e.hand) errand.now.hand errand.now.memory_front (length (seen_by seat.new)) [] (seen_by seat.old) (seen_by seat.new)) }
+    ensures lifted { IfOk result (λ piece.
+        (length piece ≡ errand.now.size)
+        × HasGrown (λ e. e.hand) errand.now.hand errand.now.memory_front (length (seen_by seat.new))
+        (under errand.now.hand (lift_for errand.now.index errand.now.request k piece ∷ []))
+        (seen_by seat.old) (seen_by seat.new)) }
+    ensures refused { OnErr result (HasGrown (λ e. e.hand) errand.now.hand errand.now.memory_front
+        (length (seen_by seat.new)) [] (seen_by seat.old) (seen_by seat.new)) }
 {
     let mut memory = book.enter_past(rt, seat, errand.memory_front);
     memory.vouch();

@@ -3,16 +3,19 @@ ghost use Rattle.std.specs.Prelude.{◌≡◌, ◌+◌, false, true, MatchBool, 
 ghost use Rattle.host_frames.specs.Seats.{given_back, pages_pool, pool_id, seat_pool};
 ghost use Rattle.host_group.specs.Seats.{cells_id, seat_cells};
 ghost use Rattle.host_intake.specs.Entries.{maker_of};
-ghost use Rattle.host_intake.specs.State.{plan_of};
-ghost use Rattle.host_turn.specs.History.{Adds};
+ghost use Rattle.host_intake.specs.State.{plan_of_intake};
+ghost use Rattle.host_log.specs.History.{Adds};
 ghost use Rattle.host_turn.specs.Seats.{IsOutside, IsSameSeat, seen_by};
 ghost use Rattle.host_session.specs.Plan.{IsSeatIn, IsShared, SessionPlan, intake_plan};
 ghost use Rattle.host_hand.specs.Buffers.{pages_freed};
 ghost use Rattle.host_hand.specs.Ends.{HasLandedClose, HasLandedCloseInTurn, LandsFreed};
 ghost use Rattle.host_hand.specs.Posts.{KeepsClaims};
 
+use crate::calls::Calls;
+use crate::carry::Carried;
 use crate::end::{Settled, push_answer, settle};
-use host_frames::{Pages, Pool, PoolSeat};
+use crate::errand::Errand;
+use host_frames::{Pool, PoolSeat};
 use host_group::Cells;
 use host_intake::{Intake, RecordEnd, Waiting};
 use host_record::{Request, Status};
@@ -22,29 +25,46 @@ use host_turn::BookSeat;
 use std::sync::Wait;
 use std::thread;
 
-/// Gives pages back that came out of a buffer, and ends the close that waited for them.
-pub(crate) fn end_freed<R: Wait>(
+/// Gives pages back that came out of a buffer, and ends the close that waited for them, between the
+/// gate's two calls.
+pub(crate) fn end_freed<R: Wait, C: Calls>(
     rt: &R,
+    gate: &C,
     session: &SessionShared,
-    me: u32,
+    errand: &Errand,
     seat: &mut BookSeat<Intake>,
     sender: &mut SlipSender,
     pool: &Pool,
     pool_seat: &mut PoolSeat,
-    freed: Option<(u32, Pages)>,
-    front: u64,
+    carried: Carried,
 )
-    requires seat { (p : SessionPlan) × IsShared p session.now × IsSeatIn p.intake (intake_plan p) me seat.old }
+    requires seat { (p : SessionPlan) × IsShared p session.now
+        × IsSeatIn p.intake (intake_plan p) errand.now.hand seat.old }
     requires pool { seat_pool pool_seat.old ≡ pool_id pool.now }
-    requires pages { MatchOption freed (Unit {0}) (λ f. pages_pool f.1 ≡ pool_id pool.now) }
+    requires pages { MatchOption carried.freed (Unit {0}) (λ f. pages_pool f.1 ≡ pool_id pool.now) }
     ensures seat { IsSameSeat seat.old seat.new × IsOutside seat.new }
-    ensures landed { LandsFreed me front freed (seen_by seat.old) (seen_by seat.new) sender.old sender.new }
+    ensures landed { LandsFreed errand.now.hand carried.end.memory_front carried.freed
+        (seen_by seat.old) (seen_by seat.new) sender.old sender.new }
     ensures claims { KeepsClaims pool_seat.old pool_seat.new }
-    ensures given_back { given_back pool_seat.new ≡ given_back pool_seat.old + pages_freed freed }
+    ensures given_back { given_back pool_seat.new
+        ≡ given_back pool_seat.old + pages_freed carried.freed }
+    ensures gated { MatchOption carried.freed (Unit {0})
+        (λ f. C.began gate.now errand.now.session f.0 × C.ended gate.now errand.now.session f.0) }
 {
+    let Carried { end, freed } = carried;
     if let Some((index, pages)) = freed {
         pool.give_back(pool_seat, pages);
-        end_close(rt, session, me, seat, sender, index, front);
+        gate.before(errand.session, index);
+        end_close(
+            rt,
+            session,
+            errand.hand,
+            seat,
+            sender,
+            index,
+            end.memory_front,
+        );
+        gate.after(errand.session, index);
     }
 }
 
@@ -58,9 +78,11 @@ fn end_close<R: Wait>(
     index: u32,
     front: u64,
 )
-    requires seat { (p : SessionPlan) × IsShared p session.now × IsSeatIn p.intake (intake_plan p) me seat.old }
+    requires seat { (p : SessionPlan) × IsShared p session.now
+        × IsSeatIn p.intake (intake_plan p) me seat.old }
     ensures seat { IsSameSeat seat.old seat.new × IsOutside seat.new }
-    ensures landed { HasLandedClose me index front (seen_by seat.old) (seen_by seat.new) sender.old sender.new }
+    ensures landed { HasLandedClose me index front (seen_by seat.old) (seen_by seat.new) sender.old
+        sender.new }
 {
     for _ in rt.forever() {
         let mut intake = session.intake.enter(rt, seat);
@@ -75,7 +97,8 @@ fn end_close<R: Wait>(
     unreachable!()
 }
 
-// Takes the close of that record, if it is there, settles it, hands its answer on and lands it, within one turn.
+// Takes the close of that record, if it is there, settles it, hands its answer on and lands it,
+// within one turn.
 fn end_in_turn<R: Wait>(
     rt: &R,
     intake: &mut Intake,
@@ -86,8 +109,10 @@ fn end_in_turn<R: Wait>(
     front: u64,
 ) -> bool
     requires { seat_cells intake.old.cell_seat ≡ cells_id cells.now }
-    ensures answer { MatchBool result (HasLandedCloseInTurn me index front intake.old.entries intake.new.entries sender.old sender.new) ((intake.new ≡ intake.old) × (sender.new ≡ sender.old)) }
-    ensures plan { plan_of intake.new ≡ plan_of intake.old }
+    ensures answer { MatchBool result (HasLandedCloseInTurn me index front intake.old.entries
+        intake.new.entries sender.old sender.new)
+        ((intake.new ≡ intake.old) × (sender.new ≡ sender.old)) }
+    ensures plan { plan_of_intake intake.new ≡ plan_of_intake intake.old }
     ensures adds { Adds maker_of me intake.old.entries intake.new.entries }
 {
     let Some(Waiting { envelope, right }) = intake.waiting(index) else {

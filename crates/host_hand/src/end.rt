@@ -9,8 +9,9 @@ ghost use Rattle.host_intake.specs.Told.{phase_in};
 ghost use Rattle.host_rings.specs.AnswerEnds.{FoundNoRoom};
 ghost use Rattle.host_turn.specs.Seats.{IsOutside, IsSameSeat, seen_by};
 ghost use Rattle.host_session.specs.Plan.{IsSeatIn, IsShared, SessionPlan, intake_plan};
-ghost use Rattle.host_hand.specs.Ends.{HasRightTo, IsEndOf, IsInFlightBy, WasUsed, slips_pushed, with_slips};
-ghost use Rattle.host_hand.specs.Growth.{HasAdded};
+ghost use Rattle.host_hand.specs.Ends.{HasRightTo, IsRecordEndOf, IsInFlightBy, WasUsed};
+ghost use Rattle.host_hand.specs.Ends.{slips_pushed, sender_with_slips};
+ghost use Rattle.host_log.specs.Growth.{HasAdded};
 
 use host_group::{CellSeat, Cells, GroupEnd};
 use host_intake::{Intake, RecordEnd, own_records_fly};
@@ -27,7 +28,8 @@ pub(crate) struct Settled {
     pub(crate) right: Option<CellSeat>,
 }
 
-/// Settles a record. A lone one is owed its own answer; a member that of its group, where it is the last to end.
+/// Settles a record. A lone one is owed its own answer; a member that of its group, where it is the
+/// last to end.
 pub(crate) fn settle(
     cells: &Cells,
     request: &Request,
@@ -95,9 +97,10 @@ fn group_answer(group: u16, end: GroupEnd) -> Slip
     }
 }
 
-/// Hands an answer on, if there is one. Tells whether it is to be kept, since the ring gave it back.
+/// Hands an answer on, if there is one. Tells whether it is to be kept, since the ring gave it
+/// back.
 pub(crate) fn push_answer<R: Wait>(rt: &R, sender: &mut SlipSender, answer: Option<Slip>) -> bool
-    ensures pushed { sender.new ≡ with_slips sender.old (slips_pushed result answer) }
+    ensures pushed { sender.new ≡ sender_with_slips sender.old (slips_pushed result answer) }
     ensures kept { result ≡ true → IsSome answer × FoundNoRoom sender.old }
 {
     match answer {
@@ -118,11 +121,15 @@ pub(crate) fn land<R: Wait>(
     kept: bool,
     right: Option<CellSeat>,
 )
-    requires seat { (p : SessionPlan) × IsShared p session.now × IsSeatIn p.intake (intake_plan p) me seat.old }
-    requires taken { (t : Taking) × (place_of t ≡ index) × IsInFlightBy me index (seen_by seat.old) t × IsEndOf (cells_id session.now.cells) (seen_by seat.old) t end answer right }
+    requires seat { (p : SessionPlan) × IsShared p session.now
+        × IsSeatIn p.intake (intake_plan p) me seat.old }
+    requires taken { (t : Taking) × (place_of t ≡ index)
+        × IsInFlightBy me index (seen_by seat.old) t
+        × IsRecordEndOf (cells_id session.now.cells) (seen_by seat.old) t end answer right }
     requires kept { kept ≡ true → IsSome answer }
     ensures seat { IsSameSeat seat.old seat.new × IsOutside seat.new }
-    ensures landed { HasAdded maker_of me (Landed me index end answer kept ∷ []) (seen_by seat.old) (seen_by seat.new) }
+    ensures landed { HasAdded maker_of me (Landed me index end answer kept ∷ []) (seen_by seat.old)
+        (seen_by seat.new) }
     ensures phase { is_shut (phase_in (seen_by seat.new)) ≡ false }
 {
     let mut intake = session.intake.enter(rt, seat);

@@ -1,13 +1,14 @@
 // A record that a hand is to carry out.
 ghost use Rattle.std.specs.Prelude.{◌≡◌, ◌+◌, ◌<◌, ◌^◌};
-ghost use Rattle.host_hand.specs.Errands.{errand_of};
+ghost use Rattle.host_hand.specs.Errands.{errand_of, flushes_after};
 
-use host_block::{BlockSize, Range};
+use host_block::{BlockSize, Op, Range};
 use host_record::Request;
 use host_rings::Envelope;
 use host_session::SessionSpec;
 
-/// A record that a hand is to carry out: for which session, on which partition, and past which fronts.
+/// A record that a hand is to carry out: for which session, on which partition, and past which
+/// fronts.
 #[derive(Clone, Copy)]
 pub(crate) struct Errand {
     pub(crate) hand: u32,
@@ -42,6 +43,13 @@ impl Errand {
         ensures { result ≡ self.now.part.first + self.now.request.dev_offset + k }
     {
         self.part.first + self.request.dev_offset + k as u64
+    }
+
+    // Whether a flush comes after its blocks, as after those of a forced write.
+    pub(crate) fn flushes_after(&self, op: Op) -> bool
+        ensures { result ≡ flushes_after self.now op }
+    {
+        op == Op::Write && self.request.is_forced()
     }
 
     // The page of its buffer for step k. Pages have numbers of 32 bits.

@@ -1,14 +1,15 @@
 // What a hand does with the buffer of a record.
-ghost use Rattle.std.specs.Prelude.{◌≡◌, ◌≤◌, ◌<◌, ◌+◌, ◌++◌, [], ◌∷◌, length, OnOk, OnErr, IfOk, IsTrue};
+ghost use Rattle.std.specs.Prelude.{◌≡◌, ◌≤◌, ◌<◌, ◌+◌, ◌++◌, [], ◌∷◌, length, OnOk, OnErr, IfOk};
+ghost use Rattle.std.specs.Prelude.{IsTrue};
 ghost use Rattle.host_frames.specs.Seats.{pool_id};
 ghost use Rattle.host_memory.specs.Pins.{is_pinned_by};
 ghost use Rattle.host_memory.specs.Held.{is_block_of};
-ghost use Rattle.host_memory.specs.State.{history, size_of};
+ghost use Rattle.host_memory.specs.State.{history, block_size_of};
 ghost use Rattle.host_model.specs.declared.memory.MemEvent.TheVariants.{Lift};
-ghost use Rattle.host_turn.specs.History.{Adds};
+ghost use Rattle.host_log.specs.History.{Adds};
 ghost use Rattle.host_turn.specs.Seats.{IsOutside, IsSameSeat, book_id, seen_by};
 ghost use Rattle.host_hand.specs.Buffers.{HasLetGo, IsAtBuffers, IsHeld, IsOfPool};
-ghost use Rattle.host_hand.specs.Growth.{HasGrown};
+ghost use Rattle.host_log.specs.Growth.{HasGrown};
 
 use crate::errand::Errand;
 use host_block::{Bytes, Oom};
@@ -48,10 +49,18 @@ pub(crate) fn lift(
     k: u32,
     page: u32,
 ) -> Result<SharedBytes, Oom>
-    requires pinned { IsTrue (is_pinned_by errand.now.hand errand.now.index errand.now.request.vmoid (history memory.old)) }
+    requires pinned { IsTrue (is_pinned_by errand.now.hand errand.now.index errand.now.request.vmoid
+        (history memory.old)) }
     requires page { IsTrue (is_block_of errand.now.request.vmoid (history memory.old) page) }
-    requires size { size_of memory.old ≡ errand.now.size }
-    ensures lifted { IfOk result (λ piece. (length piece ≡ errand.now.size) × (memory.new.entries ≡ memory.old.entries ++ record { hand = errand.now.hand; what = Lift errand.now.index k errand.now.request.vmoid page piece } ∷ [])) }
+    requires size { block_size_of memory.old ≡ errand.now.size }
+    ensures lifted { IfOk result (λ piece.
+        (length piece ≡ errand.now.size)
+        × (memory.new.entries
+        ≡ memory.old.entries
+        ++ record {
+          hand = errand.now.hand;
+          what = Lift errand.now.index k errand.now.request.vmoid page piece;
+        } ∷ [])) }
     ensures refused { OnErr result (memory.new.entries ≡ memory.old.entries) }
     ensures plan { memory.new.plan ≡ memory.old.plan }
     ensures adds { Adds (λ e. e.hand) errand.now.hand memory.old.entries memory.new.entries }
@@ -80,7 +89,8 @@ pub(crate) fn let_go<R: Wait>(
     requires pool { IsOfPool (pool_id pool.now) seat.old }
     requires held { IsHeld errand.now (seen_by seat.old) }
     ensures seat { IsSameSeat seat.old seat.new × IsOutside seat.new }
-    ensures gone { HasLetGo errand.now (pool_id pool.now) result.front (seen_by seat.old) (seen_by seat.new) result.freed }
+    ensures gone { HasLetGo errand.now (pool_id pool.now) result.front (seen_by seat.old)
+        (seen_by seat.new) result.freed }
 {
     let _pool = pool;
     let mut memory = book.enter_past(rt, seat, errand.memory_front);
@@ -100,7 +110,8 @@ pub(crate) fn look<R: Wait>(
 ) -> u64
     requires { IsAtBuffers (book_id book.now) errand.now.hand errand.now.size seat.old }
     ensures seat { IsSameSeat seat.old seat.new × IsOutside seat.new }
-    ensures seen { HasGrown (λ e. e.hand) errand.now.hand errand.now.memory_front result [] (seen_by seat.old) (seen_by seat.new) }
+    ensures seen { HasGrown (λ e. e.hand) errand.now.hand errand.now.memory_front result []
+        (seen_by seat.old) (seen_by seat.new) }
     ensures length { result ≡ length (seen_by seat.new) }
 {
     let _errand = errand;

@@ -1,7 +1,9 @@
-//! What one hand does at one session: it hands on a kept answer, or takes a record, carries it out, settles it and lands it.
+//! What one hand does at one session: it hands on a kept answer, or takes a record, carries it out,
+//! settles it and lands it.
 #![tactic(auto)]
 
 mod block;
+mod calls;
 mod carry;
 mod close;
 mod end;

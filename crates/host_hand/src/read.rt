@@ -2,11 +2,12 @@
 ghost use Rattle.std.specs.Prelude.{◌≡◌, ◌<◌, ◌++◌, length, IfOk};
 ghost use Rattle.std.specs.Option.{ForSome};
 ghost use Rattle.host_block.specs.declared.op.Op.TheVariants.{Read};
-ghost use Rattle.host_device.specs.Entries.{answer_alone, entry_of, entries_added};
+ghost use Rattle.host_device.specs.Entries.{answer_alone, step_made, entries_added};
 ghost use Rattle.host_device.specs.Seen.{fixed_of, shape_of, steps_of};
-ghost use Rattle.host_turn.specs.History.{Adds};
-ghost use Rattle.host_turn.specs.Seats.{IsSeatOutside, IsOutside, IsSameSeat, fixed_part, number, seen_by};
-ghost use Rattle.host_hand.specs.Growth.{HasGrown};
+ghost use Rattle.host_log.specs.History.{Adds};
+ghost use Rattle.host_turn.specs.Seats.{IsSeatOutside, IsOutside, IsSameSeat, fixed_part, number};
+ghost use Rattle.host_turn.specs.Seats.{seen_by};
+ghost use Rattle.host_log.specs.Growth.{HasGrown};
 
 use crate::errand::Errand;
 use host_block::Oom;
@@ -38,7 +39,10 @@ pub(crate) fn read_at<D: Disk, R: Wait>(
     requires piece { ForSome (fixed_part seat.old) (λ fixed. length into.old ≡ fixed.size) }
     ensures seat { IsSameSeat seat.old seat.new × IsOutside seat.new }
     ensures bytes { IfOk result.answer (λ bytes. bytes ≡ into.new) }
-    ensures step { HasGrown (λ step. step.hand) errand.now.hand errand.now.device_front result.front (entries_added (answer_alone result.answer) (entry_of errand.now.hand errand.now.session errand.now.index k Read block into.new)) (seen_by seat.old) (seen_by seat.new) }
+    ensures step { HasGrown (λ step. step.hand) errand.now.hand errand.now.device_front result.front
+        (entries_added (answer_alone result.answer)
+        (step_made errand.now.hand errand.now.session errand.now.index k Read block into.new))
+        (seen_by seat.old) (seen_by seat.new) }
     ensures front { result.front ≡ length (seen_by seat.new) }
 {
     let mut device = book.enter_past(rt, seat, errand.device_front);
@@ -59,8 +63,12 @@ fn make_read<D: Disk>(
     requires block { block < (shape_of device.old).blocks }
     requires piece { length into.old ≡ (shape_of device.old).size }
     ensures bytes { IfOk result (λ bytes. bytes ≡ into.new) }
-    ensures entry { (steps_of device.new).items ≡ (steps_of device.old).items ++ entries_added (answer_alone result) (entry_of errand.now.hand errand.now.session errand.now.index k Read block into.new) }
-    ensures adds { Adds (λ step. step.hand) errand.now.hand (steps_of device.old).items (steps_of device.new).items }
+    ensures entry { (steps_of device.new).items
+        ≡ (steps_of device.old).items
+        ++ entries_added (answer_alone result) (step_made errand.now.hand errand.now.session
+        errand.now.index k Read block into.new) }
+    ensures adds { Adds (λ step. step.hand) errand.now.hand (steps_of device.old).items
+        (steps_of device.new).items }
     ensures fixed { fixed_of device.new ≡ fixed_of device.old }
 {
     match device.make_room() {

@@ -10,10 +10,11 @@ ghost use Rattle.host_hand.specs.Jobs.{HasJob};
 ghost use Rattle.host_hand.specs.Kept.{KeepsSession};
 ghost use Rattle.host_hand.specs.Posts.{IsAtDevice, IsPosted, IsSameHand, KeepsClaims};
 ghost use Rattle.host_hand.specs.Serves.{HasServed, HasStepped};
-ghost use Rattle.host_hand.specs.Visits.{HasSeenMore, begun_by};
+ghost use Rattle.host_hand.specs.Visits.{HasSeenMore, IsNoteAt, begun_by, count_told};
 ghost use Rattle.host_hand.specs.Works.{pages_with};
 
-use crate::carry::{Carried, carry_out};
+use crate::calls::{Calls, Watched};
+use crate::carry::carry_out;
 use crate::close::end_freed;
 use crate::end::{Settled, land, push_answer, settle};
 use crate::errand::Errand;
@@ -23,14 +24,18 @@ use crate::visit::Visit;
 use host_device::Device;
 use host_frames::{Pool, PoolSeat};
 use host_io::{Disk, Gate};
+use host_rings::Note;
 use host_session::{SessionHand, SessionShared, SessionSpec};
 use host_turn::{Book, BookSeat};
 use std::alloc::Global;
 use std::sync::Wait;
 
-/// Hands on the oldest kept answer of a session, or else takes its next record, carries it out and tells its end.
+/// Hands on the oldest kept answer of a session, or else takes its next record, carries it out and
+/// tells its end.
 ///
-/// `me` is the hand's number. A close that has to wait for pins is taken and left with the intake.
+/// `me` is the hand's number. A note tells how many records were sent; where they were all taken,
+/// or why the next one can't be, is then told by an idle visit. A close that has to wait for pins
+/// is taken and left with the intake.
 pub fn serve<D: Disk, G: Gate, R: Wait>(
     rt: &R,
     alloc: Global,
@@ -43,14 +48,18 @@ pub fn serve<D: Disk, G: Gate, R: Wait>(
     device_seat: &mut BookSeat<Device<D>>,
     pool_seat: &mut PoolSeat,
     gate: &G,
+    note: Option<Note>,
 ) -> Visit
     requires hand { IsPosted spec.now me (pool_id pool.now) session.now hand.old }
-    requires device { IsAtDevice (book_id device.now) me spec.now.part spec.now.size device_seat.old }
+    requires device { IsAtDevice (book_id device.now) me spec.now.part spec.now.size
+        device_seat.old }
     requires pool { seat_pool pool_seat.old ≡ pool_id pool.now }
     requires kept { KeepsSession spec.now me hand.old (seen_by device_seat.old) }
-    ensures { HasServed spec.now me hand.old hand.new device_seat.old device_seat.new pool_seat.old pool_seat.new result }
+    requires note { IsNoteAt hand.old.intake note }
+    ensures { HasServed spec.now me hand.old hand.new device_seat.old device_seat.new pool_seat.old
+        pool_seat.new (count_told note) result }
 {
-    match find_next(rt, session, spec, pool, me, hand) {
+    match find_next(rt, session, spec, pool, me, hand, note) {
         Next::Passed => Visit::Did,
         Next::Waits => Visit::Did,
         Next::Idle => Visit::Idle,
@@ -67,7 +76,7 @@ pub fn serve<D: Disk, G: Gate, R: Wait>(
                 hand,
                 device_seat,
                 pool_seat,
-                gate,
+                &Watched { gate },
                 job,
             );
             Visit::Did
@@ -75,8 +84,8 @@ pub fn serve<D: Disk, G: Gate, R: Wait>(
     }
 }
 
-// Carries out a record that was taken, and tells its end.
-fn work_off<D: Disk, G: Gate, R: Wait>(
+// Carries out a record that was taken, and tells its end, between the gate's two calls.
+fn work_off<D: Disk, C: Calls, R: Wait>(
     rt: &R,
     alloc: Global,
     session: &SessionShared,
@@ -87,21 +96,27 @@ fn work_off<D: Disk, G: Gate, R: Wait>(
     hand: &mut SessionHand,
     device_seat: &mut BookSeat<Device<D>>,
     pool_seat: &mut PoolSeat,
-    gate: &G,
+    gate: &C,
     job: Job,
 )
     requires hand { IsPosted spec.now me (pool_id pool.now) session.now hand.old }
-    requires device { IsAtDevice (book_id device.now) me spec.now.part spec.now.size device_seat.old }
+    requires device { IsAtDevice (book_id device.now) me spec.now.part spec.now.size
+        device_seat.old }
     requires pool { seat_pool pool_seat.old ≡ pool_id pool.now }
-    requires job { HasJob (cells_id session.now.cells) spec.now (pool_id pool.now) me (seen_by hand.old.intake) (seen_by hand.old.memory) (seen_by device_seat.old) hand.old.sender.pushed job }
+    requires job { HasJob (cells_id session.now.cells) spec.now (pool_id pool.now) me
+        (seen_by hand.old.intake) (seen_by hand.old.memory) (seen_by device_seat.old)
+        hand.old.sender.pushed job }
     ensures same { IsSameHand hand.old hand.new }
     ensures stepped { HasStepped spec.now.number me device_seat.old device_seat.new }
     ensures claims { KeepsClaims pool_seat.old pool_seat.new }
     ensures kept { KeepsSession spec.now me hand.new (seen_by device_seat.new) }
     ensures more { HasSeenMore hand.old hand.new }
-    ensures frames { given_back pool_seat.new + frames_out me hand.old ≡ given_back pool_seat.old + pages_with job.work + frames_out me hand.new }
+    ensures frames { given_back pool_seat.new + frames_out me hand.old
+        ≡ given_back pool_seat.old + pages_with job.work + frames_out me hand.new }
     ensures did { begun_by me (seen_by hand.new.intake) ≡ begun_by me (seen_by hand.old.intake) }
     ensures phase { is_shut (phase_in (seen_by hand.new.intake)) ≡ false }
+    ensures gated { C.began gate.now spec.now.number job.envelope.index
+        × C.ended gate.now spec.now.number job.envelope.index }
 {
     let Job {
         envelope,
@@ -110,7 +125,7 @@ fn work_off<D: Disk, G: Gate, R: Wait>(
     } = job;
     let errand = Errand::of(me, spec, &envelope);
     gate.before(spec.number, errand.index);
-    let Carried { end, freed } = carry_out(
+    let carried = carry_out(
         rt,
         alloc,
         &session.memory,
@@ -122,16 +137,17 @@ fn work_off<D: Disk, G: Gate, R: Wait>(
         &errand,
         work,
     );
+    let end = carried.end;
     end_freed(
         rt,
+        gate,
         session,
-        me,
+        &errand,
         &mut hand.intake,
         &mut hand.sender,
         pool,
         pool_seat,
-        freed,
-        end.memory_front,
+        carried,
     );
     let Settled { answer, right } = settle(
         &session.cells,

@@ -2,11 +2,12 @@
 ghost use Rattle.std.specs.Prelude.{◌≡◌, ◌++◌, false, length};
 ghost use Rattle.std.specs.Option.{ForSome};
 ghost use Rattle.host_block.specs.Changes.{is_read};
-ghost use Rattle.host_device.specs.Entries.{IsOnDisk, IsPiece, entry_of, entries_added};
+ghost use Rattle.host_device.specs.Entries.{IsOnDisk, IsPiece, step_made, entries_added};
 ghost use Rattle.host_device.specs.Seen.{fixed_of, shape_of, steps_of};
-ghost use Rattle.host_turn.specs.History.{Adds};
-ghost use Rattle.host_turn.specs.Seats.{IsSeatOutside, IsOutside, IsSameSeat, fixed_part, number, seen_by};
-ghost use Rattle.host_hand.specs.Growth.{HasGrown};
+ghost use Rattle.host_log.specs.History.{Adds};
+ghost use Rattle.host_turn.specs.Seats.{IsSeatOutside, IsOutside, IsSameSeat, fixed_part, number};
+ghost use Rattle.host_turn.specs.Seats.{seen_by};
+ghost use Rattle.host_log.specs.Growth.{HasGrown};
 
 use crate::errand::Errand;
 use crate::run::Run;
@@ -33,7 +34,10 @@ pub(crate) fn step_at<D: Disk, R: Wait>(
     requires block { ForSome (fixed_part seat.old) (λ fixed. IsOnDisk op block fixed.blocks) }
     requires piece { ForSome (fixed_part seat.old) (λ fixed. IsPiece op (length bytes) fixed.size) }
     ensures seat { IsSameSeat seat.old seat.new × IsOutside seat.new }
-    ensures step { HasGrown (λ step. step.hand) errand.now.hand errand.now.device_front result.front (entries_added result.answer (entry_of errand.now.hand errand.now.session errand.now.index k op block bytes)) (seen_by seat.old) (seen_by seat.new) }
+    ensures step { HasGrown (λ step. step.hand) errand.now.hand errand.now.device_front result.front
+        (entries_added result.answer
+        (step_made errand.now.hand errand.now.session errand.now.index k op block bytes))
+        (seen_by seat.old) (seen_by seat.new) }
     ensures front { result.front ≡ length (seen_by seat.new) }
 {
     let mut device = book.enter_past(rt, seat, errand.device_front);
@@ -55,8 +59,12 @@ fn make_step<D: Disk>(
     requires kind { is_read op ≡ false }
     requires block { IsOnDisk op block (shape_of device.old).blocks }
     requires piece { IsPiece op (length bytes) (shape_of device.old).size }
-    ensures entry { (steps_of device.new).items ≡ (steps_of device.old).items ++ entries_added result (entry_of errand.now.hand errand.now.session errand.now.index k op block bytes) }
-    ensures adds { Adds (λ step. step.hand) errand.now.hand (steps_of device.old).items (steps_of device.new).items }
+    ensures entry { (steps_of device.new).items
+        ≡ (steps_of device.old).items
+        ++ entries_added result
+        (step_made errand.now.hand errand.now.session errand.now.index k op block bytes) }
+    ensures adds { Adds (λ step. step.hand) errand.now.hand (steps_of device.old).items
+        (steps_of device.new).items }
     ensures fixed { fixed_of device.new ≡ fixed_of device.old }
 {
     match device.make_room() {

@@ -3,7 +3,8 @@
 pub enum Visit {
     /// A record was taken, or a kept answer was handed on.
     Did,
-    /// There was nothing to hand on, or no room for it, and no record could be taken.
+    /// No record could be taken: the session is over, or at its limit; each one that was told to be
+    /// sent is taken; or the next one is stalled.
     Idle,
     /// The session is closed.
     Closed,

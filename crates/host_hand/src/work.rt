@@ -18,7 +18,8 @@ pub(crate) enum Work {
     Flush,
 }
 
-/// What is to be done for a record that was accepted. There is nothing yet for a close without its pages, which waits.
+/// What is to be done for a record that was accepted. There is nothing yet for a close without its
+/// pages, which waits.
 pub(crate) fn work_of(request: &Request, pages: Option<Pages>) -> Option<Work>
     requires { IsSome (opcode request.now) }
     ensures { result ≡ work_for (opcode request.now) pages }

@@ -5,11 +5,9 @@ use Rattle.std.specs.Prelude.{unwrap_or}
 use Rattle.host_block.specs.declared.range.Range.{Range}
 use Rattle.host_record.specs.declared.request.Request.{Request}
 use Rattle.host_record.specs.declared.status.Status.{Status}
-use Rattle.host_record.specs.declared.status.Status.TheVariants.{NotFound}
-use Rattle.host_record.specs.Command.{opcode, names_buffer, is_transfer}
+use Rattle.host_record.specs.{NotFound, opcode, names_buffer, is_transfer}
 use Rattle.host_model.specs.declared.verdict.Verdict.{Verdict}
-use Rattle.host_model.specs.declared.verdict.Verdict.TheVariants.{Accepted, Refused}
-use Rattle.host_model.specs.Verdict.{checks, first_check, is_within, judged}
+use Rattle.host_model.specs.{Accepted, Refused, checks, first_check, is_within, judged}
 
 -- no check failed
 first_passes : (check : Bool × Status) (cs : List (Bool × Status)) → first_check (check ∷ cs) ≡ Accepted → (check.0 ≡ false) × (first_check cs ≡ Accepted)

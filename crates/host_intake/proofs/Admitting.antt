@@ -9,29 +9,19 @@ use Rattle.std.proofs.lemmas.List.{map-append, length-map}
 use Rattle.std.proofs.lemmas.Option.{slice_get_within}
 use Rattle.atomic_table.specs.Seated.{TableId}
 use Rattle.host_record.specs.declared.request.Request.{Request}
-use Rattle.host_record.specs.Command.{is_last}
-use Rattle.host_model.specs.Groups.{closings, is_member}
-use Rattle.host_model.specs.Lists.{below, count}
-use Rattle.host_model.specs.Log.{request_at}
-use Rattle.host_group.specs.declared.seat.CellSeat.{CellSeat}
-use Rattle.host_group.specs.declared.view.Member.{Member}
-use Rattle.host_group.specs.declared.view.Row.{Row}
-use Rattle.host_group.specs.Seats.{IsAdmittingOf, seat_cells, admitted, back, member, next}
+use Rattle.host_record.specs.{is_last}
+use Rattle.host_model.specs.{closings, is_member, below, count, request_at}
+use Rattle.host_group.specs.{CellSeat, Member, Row, IsAdmittingOf, seat_cells, admitted, back, member, next}
 use Rattle.host_group.specs.Views as cell
 use Rattle.host_memory.proofs.Pushed.{count_add, count_skip}
-use Rattle.host_rings.specs.declared.envelope.Envelope.{Envelope}
-use Rattle.host_intake.specs.declared.waiting.Waiting.{Waiting}
-use Rattle.host_intake.specs.Answers.{lone_slip}
-use Rattle.host_intake.specs.Entries.{Taking, Landing, is_landing_of, place_of, request_in, requests_of}
-use Rattle.host_intake.specs.Members.{AreLanded, AreInCells, backs, is_by_taker, is_lander, is_member_at, is_of_member, is_right_out, landing_ending, member_at, members, row_ending}
-use Rattle.host_intake.specs.Rights.{HasRight}
-use Rattle.host_intake.specs.Told.{is_open, is_out}
-use Rattle.host_intake.specs.Waits.{AreWaiting, IsOfTaking, IsWaiting, is_waiting_at}
+use Rattle.host_rings.specs.{Envelope}
+use Rattle.host_intake.specs.{Waiting, lone_slip, Taking, Landing, is_landing_of, place_of, request_in, requests_of, AreLanded, AreInCells, backs, is_by_taker, is_lander, is_member_at, is_of_member, is_right_out, landing_ending, member_at, members, row_ending, HasRight, is_open, is_out, AreWaiting, IsOfTaking, IsRecordWaiting, is_waiting_at}
 use Rattle.host_intake.proofs.Counting.{count_agree, count_more, count_no_more}
-use Rattle.host_intake.proofs.Judging.{get_last, get_more}
-use Rattle.host_intake.proofs.Ledgering.{and_left, and_right}
+use Rattle.host_intake.proofs.Judging.{get_more}
+use Rattle.host_log.proofs.Places.{get_last}
 use Rattle.host_intake.proofs.Membering.{closings_same, member_after, member_last, member_more, members_more, request_more}
 use Rattle.host_intake.proofs.Removing.{get_snoc}
+use Rattle.host_log.proofs.Bools.{and_end, and_left, and_right}
 
 module _ (ts : List Taking) (t : Taking) where
   pub requests_more : requests_of (ts ++ t ∷ []) ≡ requests_of ts ++ request_in t ∷ []
@@ -120,15 +110,10 @@ module _ (ts : List Taking) (ls : List Landing) (t : Taking) (k : AreLanded ts l
         count_agree (λ i. p i && is_right_out new ls i) (λ i. p i && is_right_out rs ls i) 0 n (λ j lo hi. ap (λ (r : Request). p j && (is_member r && is_open ls j)) (request_same ts t j (omega arith))) in
         let b : count (λ i. p i && is_member_at new i) (below n) ≡ count (λ i. p i && is_member_at rs i) (below n) =
         count_agree (λ i. p i && is_member_at new i) (λ i. p i && is_member_at rs i) 0 n (λ j lo hi. ap (λ (r : Request). p j && is_member r) (request_same ts t j (omega arith))) in
-        let same : (p n && is_right_out new ls n) ≡ (p n && is_member_at new n) = ap (λ b. p n && (is_member_at new n && b)) open_next ∙ and_on (p n) (is_member_at new n) in
+        let same : (p n && is_right_out new ls n) ≡ (p n && is_member_at new n) = ap (λ b. p n && (is_member_at new n && b)) open_next ∙ and_end (p n) (is_member_at new n) in
         let o = c.out p in
         ap (λ m. backs p (back q) + count (λ i. p i && is_right_out new ls i) (below m)) one_more ∙ (step p (p n && is_member_at new n) refl same a b o ∙ ap (λ m. count (λ i. p i && is_member_at new i) (below m)) (sym one_more))
       where
-        and_on : (a b : Bool) → (a && (b && true)) ≡ (a && b)
-        and_on true true = refl
-        and_on true false = refl
-        and_on false b = refl
-
         step : (p : ℕ → Bool) (d : Bool) → (p (length ts) && is_member_at (requests_of (ts ++ t ∷ [])) (length ts)) ≡ d
             → (p (length ts) && is_right_out (requests_of (ts ++ t ∷ [])) ls (length ts)) ≡ (p (length ts) && is_member_at (requests_of (ts ++ t ∷ [])) (length ts))
             → count (λ i. p i && is_right_out (requests_of (ts ++ t ∷ [])) ls i) (below (length ts)) ≡ count (λ i. p i && is_right_out (requests_of ts) ls i) (below (length ts))
@@ -158,11 +143,11 @@ module _ (ts : List Taking) (ls : List Landing) (t : Taking) (k : AreLanded ts l
 
     -- a member was taken, and admitted to its group
     pub cells_taken_member : is_member (request_in t) ≡ true → (p : CellSeat) → IsAdmittingOf (seat_cells p) p → back p ≡ back q → next p ≡ length ts + 1
-        → admitted p ≡ admitted q ++ member (request_in t).group (cell.closings (request_in t).group (admitted q)) (length ts) (request_in t).reqid (is_last (request_in t)) ∷ []
+        → admitted p ≡ admitted q ++ member (request_in t).group (cell.members_closing (request_in t).group (admitted q)) (length ts) (request_in t).reqid (is_last (request_in t)) ∷ []
         → AreInCells (ts ++ t ∷ []) ls p
     cells_taken_member mem p resting came above told = record {
       resting = resting;
-      told = told ∙ (ap (λ n. admitted q ++ member (request_in t).group n (length ts) (request_in t).reqid (is_last (request_in t)) ∷ []) (ap (λ l. cell.closings (request_in t).group l) c.told ∙ closings_same (request_in t).group (requests_of ts))
+      told = told ∙ (ap (λ n. admitted q ++ member (request_in t).group n (length ts) (request_in t).reqid (is_last (request_in t)) ∷ []) (ap (λ l. cell.members_closing (request_in t).group l) c.told ∙ closings_same (request_in t).group (requests_of ts))
           ∙ (ap (λ (l : List Member). l ++ member (request_in t).group (closings (request_in t).group (requests_of ts)) (length ts) (request_in t).reqid (is_last (request_in t)) ∷ []) c.told
           ∙ (ap (λ b. members (requests_of ts) ++ cons_option (cond b (Some (member (request_in t).group (closings (request_in t).group (requests_of ts)) (length ts) (request_in t).reqid (is_last (request_in t)))) None) []) (sym mem) ∙ sym (members_new ts t))));
       above = let n = one_more in omega arith;
@@ -185,9 +170,9 @@ module _ (ts : List Taking) (ls : List Landing) (t : Taking) (k : AreLanded ts l
   waiting_same : (cells : TableId) (w : Waiting) → IsOfTaking cells ts ls w → IsOfTaking cells (ts ++ t ∷ []) ls w
   waiting_same cells w m = step (slice_get ts w.envelope.index) refl m
     where
-      step : (o : Option Taking) → slice_get ts w.envelope.index ≡ o → MatchOption o ⊥ (λ u. IsWaiting cells ts ls w u) → IsOfTaking cells (ts ++ t ∷ []) ls w
+      step : (o : Option Taking) → slice_get ts w.envelope.index ≡ o → MatchOption o ⊥ (λ u. IsRecordWaiting cells ts ls w u) → IsOfTaking cells (ts ++ t ∷ []) ls w
       step None e m = absurd m
-      step (Some u) e m = subst (λ (o : Option Taking). MatchOption o ⊥ (λ u. IsWaiting cells (ts ++ t ∷ []) ls w u)) (sym (get_more ts t u w.envelope.index e))
+      step (Some u) e m = subst (λ (o : Option Taking). MatchOption o ⊥ (λ u. IsRecordWaiting cells (ts ++ t ∷ []) ls w u)) (sym (get_more ts t u w.envelope.index e))
           (record {
             envelope = m.envelope;
             waits = m.waits;
@@ -207,7 +192,7 @@ module _ (ts : List Taking) (ls : List Landing) (t : Taking) (k : AreLanded ts l
   }
     where
       new : IsOfTaking cells (ts ++ t ∷ []) ls (record { envelope = t.envelope; right = right })
-      new = subst (λ (o : Option Taking). MatchOption o ⊥ (λ u. IsWaiting cells (ts ++ t ∷ []) ls (record { envelope = t.envelope; right = right }) u)) (sym (ap (λ i. slice_get (ts ++ t ∷ []) i) next ∙ get_last ts t))
+      new = subst (λ (o : Option Taking). MatchOption o ⊥ (λ u. IsRecordWaiting cells (ts ++ t ∷ []) ls (record { envelope = t.envelope; right = right }) u)) (sym (ap (λ i. slice_get (ts ++ t ∷ []) i) next ∙ get_last ts t))
           (record {
             envelope = refl;
             waits = waits;
@@ -222,7 +207,7 @@ module _ (ts : List Taking) (ls : List Landing) (t : Taking) (k : AreLanded ts l
       before : (n : ℕ) (x : Waiting) → slice_get ws n ≡ Some x → x.envelope.index < length ts
       before n x e = found (slice_get ts x.envelope.index) refl (w.each n x e)
         where
-          found : (o : Option Taking) → slice_get ts x.envelope.index ≡ o → MatchOption o ⊥ (λ u. IsWaiting cells ts ls x u) → x.envelope.index < length ts
+          found : (o : Option Taking) → slice_get ts x.envelope.index ≡ o → MatchOption o ⊥ (λ u. IsRecordWaiting cells ts ls x u) → x.envelope.index < length ts
           found None e m = absurd m
           found (Some u) e m = slice_get_within ts x.envelope.index u e
 

@@ -1,5 +1,5 @@
 -- What the hand is told of the record that was taken.
-use Rattle.std.proofs.Common.{◌≡◌, ℕ, zero, suc, ◌+◌, ◌-◌, ◌≤◌, ◌<◌, ◌==◌, Bool, true, false, not, ◌&&◌, ◌||◌, nat_le, nat_lt, cond, List, [], ◌∷◌, ◌++◌, length, filter, filter_map, take, drop, Option, Some, None, MatchOption, refl, sym, ap, subst, ◌∙◌, arith, eq-eqb}
+use Rattle.std.proofs.Common.{◌≡◌, ℕ, zero, suc, ◌+◌, ◌-◌, ◌≤◌, ◌<◌, ◌==◌, Bool, true, false, not, ◌&&◌, nat_le, nat_lt, cond, List, [], ◌∷◌, ◌++◌, length, filter, filter_map, take, drop, Option, Some, None, MatchOption, refl, sym, ap, subst, ◌∙◌, arith, eq-eqb}
 use Rattle.std.specs.Prelude.{slice_get, unwrap_or}
 use Rattle.std.specs.Bool.{then_some}
 use Rattle.std.specs.Option.{option_map_or}
@@ -10,32 +10,19 @@ use Rattle.std.specs.List.{list_any}
 use Rattle.atomic_table.specs.Seated.{TableId}
 use mathlib.Core.List.{IsPrefix}
 use Rattle.host_block.specs.declared.range.Range.{Range}
-use Rattle.host_frames.specs.Seats.{SeenPages}
-use Rattle.host_record.specs.Command.{opcode, is_close}
-use Rattle.host_model.specs.declared.memory.MemEntry.{MemEntry}
-use Rattle.host_model.specs.declared.memory.MemEvent.{MemEvent}
+use Rattle.host_frames.specs.{SeenPages}
+use Rattle.host_record.specs.{opcode, is_close}
+use Rattle.host_model.specs.{MemEntry, MemEvent, Accepted, Refused, below, count, is_accepted, judged}
 use Rattle.host_model.specs.declared.verdict.Verdict.{Verdict}
-use Rattle.host_model.specs.declared.verdict.Verdict.TheVariants.{Accepted, Refused}
-use Rattle.host_model.specs.Lists.{below, count}
-use Rattle.host_model.specs.Verdict.{is_accepted, judged}
-use Rattle.host_memory.specs.declared.limits.MemoryPlan.{MemoryPlan}
-use Rattle.host_memory.specs.Held.{Attachment, attachment_by, attachment_of, closer_of, is_before_close, is_block_of, is_released, pages_for, page_count_of, standing_in}
-use Rattle.host_memory.specs.PagesHeld.{ArePagesOf}
-use Rattle.host_memory.specs.State.{events}
-use Rattle.host_group.specs.declared.seat.CellSeat.{CellSeat}
-use Rattle.host_rings.specs.declared.envelope.Envelope.{Envelope}
-use Rattle.host_turn.specs.Seats.{fixed_part, seen_by}
-use Rattle.host_intake.specs.declared.waiting.Waiting.{Waiting}
-use Rattle.host_intake.specs.Admissions.{AreBlocksSeen, ArePagesClosed, HasPages, HasTaken, IsAdmitted, IsRightOut, IsTakenOrStalled, answer_of}
-use Rattle.host_intake.specs.Entries.{Taking, Landing, place_of, request_in}
-use Rattle.host_intake.specs.State.{IntakeState, MemorySeat}
-use Rattle.host_intake.specs.Takings.{IsJudged, judged_on}
-use Rattle.host_intake.specs.Told.{is_open}
-use Rattle.host_intake.specs.Waits.{AreWaiting, IsWaiting, is_waiting_at}
+use Rattle.host_memory.specs.{MemoryPlan, Attachment, attachment_by, attachment_of, closer_of, is_before_close, is_block_of, is_released, pages_for, page_count_of, standing_in, ArePagesOf, events}
+use Rattle.host_group.specs.{CellSeat}
+use Rattle.host_rings.specs.{Envelope}
+use Rattle.host_turn.specs.{fixed_part, seen_by}
+use Rattle.host_intake.specs.{Waiting, AreBlocksSeen, ArePagesClosed, GivesSeenPages, HasTaken, IsAdmitted, IsRightOut, IsTakenOrStalled, admission_of, Taking, Landing, place_of, request_in, IntakeState, MemorySeat, IsJudged, judged_on, is_open, AreWaiting, IsRecordWaiting, is_waiting_at}
 use Rattle.host_intake.proofs.Accepting.{accepted_within}
 use Rattle.host_intake.proofs.Counting.{but_for, count_cut}
-use Rattle.host_intake.proofs.Ledgering.{and_left, and_right}
 use Rattle.host_intake.proofs.Removing.{none_any}
+use Rattle.host_log.proofs.Bools.{or_left, or_right, and_left, and_right}
 
 -- ---- blocks
 
@@ -58,7 +45,7 @@ first_stays [] ys block h = absurd (cc)
 first_stays (x ∷ xs) ys block h = h
 
 -- a block of a buffer stays one
-block_later : (v block : ℕ) (h more : List MemEvent) → is_block_of v h block ≡ true → is_block_of v (h ++ more) block ≡ true
+pub block_later : (v block : ℕ) (h more : List MemEvent) → is_block_of v h block ≡ true → is_block_of v (h ++ more) block ≡ true
 block_later v block h more e =
     ap (λ (l : List Attachment). option_map_or (λ (a : Attachment). nat_lt block a.pages) (slice_get l 0) false) (filter_map-append (attachment_by v) h more) ∙ first_stays (filter_map (attachment_by v) h) (filter_map (attachment_by v) more) block e
 
@@ -77,7 +64,7 @@ blocks_seen part n seat t k accepted transfer b less =
 
 -- ---- pages, as the hand's seat has seen them
 
-pub pages_told : (from to : MemorySeat) (t : Taking) (pages : Option SeenPages) → fixed_part from ≡ fixed_part to → IsPrefix (seen_by from) (seen_by to) → t.seen ≤ length (seen_by from) → HasPages from t pages → HasPages to t pages
+pub pages_told : (from to : MemorySeat) (t : Taking) (pages : Option SeenPages) → fixed_part from ≡ fixed_part to → IsPrefix (seen_by from) (seen_by to) → t.seen ≤ length (seen_by from) → GivesSeenPages from t pages → GivesSeenPages to t pages
 pages_told from to t pages fixed p seen m = (m.0, of_pages pages m.1)
   where
     same : judged_on (seen_by from) t ≡ judged_on (seen_by to) t
@@ -117,10 +104,10 @@ module _ (hand : ℕ) (old new : IntakeState) (seat : MemorySeat) (e : Envelope)
       )
 
   -- any other record
-  pub told_answer : (pages : Option SeenPages) (right : Option CellSeat) → HasPages seat t pages → IsRightOut old new t right → IsTakenOrStalled hand old new seat e (answer_of t.verdict e pages right)
+  pub told_answer : (pages : Option SeenPages) (right : Option CellSeat) → GivesSeenPages seat t pages → IsRightOut old new t right → IsTakenOrStalled hand old new seat e (admission_of t.verdict e pages right)
   told_answer pages right has out = step t.verdict refl
     where
-      step : (v : Verdict) → t.verdict ≡ v → IsTakenOrStalled hand old new seat e (answer_of v e pages right)
+      step : (v : Verdict) → t.verdict ≡ v → IsTakenOrStalled hand old new seat e (admission_of v e pages right)
       step Accepted is = (refl, (t, record { taken = taken; by = by; verdict = is; blocks = blocks_seen part n seat t known is; pages_out = has; right_out = out }))
       step (Refused status) is = (refl, (t, record { taken = taken; by = by; verdict = is; right_out = out }))
 
@@ -148,14 +135,6 @@ fewer_waiting (w ∷ ws) p n h apart =
     others : (k : ℕ) (x : Waiting) → slice_get ws k ≡ Some x → (w.envelope.index == x.envelope.index) ≡ false
     others k x e = ne_eqb w.envelope.index x.envelope.index (λ z. absurd (let f = any_at (is_waiting_at w.envelope.index) ws k x e none_else in let y = eq-eqb x.envelope.index w.envelope.index (sym z) in let q : false ≡ true = sym f ∙ y in cc))
       where
-        or_left : (a b : Bool) → (a || b) ≡ false → a ≡ false
-        or_left true b e = e
-        or_left false b e = refl
-
-        or_right : (a b : Bool) → (a || b) ≡ false → b ≡ false
-        or_right true b e = absurd (cc)
-        or_right false b e = e
-
         any_at : (f : Waiting → Bool) (l : List Waiting) (k : ℕ) (x : Waiting) → slice_get l k ≡ Some x → list_any f l ≡ false → f x ≡ false
         any_at f [] zero x e none = absurd (cc)
         any_at f [] (suc k) x e none = absurd (cc)
@@ -165,6 +144,6 @@ fewer_waiting (w ∷ ws) p n h apart =
 pub waiting_few : (cells : TableId) (ts : List Taking) (ls : List Landing) (ws : List Waiting) → AreWaiting cells ts ls ws → length ws ≤ count (is_open ls) (below (length ts))
 waiting_few cells ts ls ws w = fewer_waiting ws (is_open ls) (length ts) (λ k x e. out x (slice_get ts x.envelope.index) (w.each k x e)) w.apart
   where
-    out : (x : Waiting) (o : Option Taking) → MatchOption o ⊥ (λ u. IsWaiting cells ts ls x u) → (x.envelope.index < length ts) × (is_open ls x.envelope.index ≡ true)
+    out : (x : Waiting) (o : Option Taking) → MatchOption o ⊥ (λ u. IsRecordWaiting cells ts ls x u) → (x.envelope.index < length ts) × (is_open ls x.envelope.index ≡ true)
     out x None m = absurd m
     out x (Some u) m = (ltb-true x.envelope.index (length ts) (and_left (nat_lt x.envelope.index (length ts)) (is_open ls x.envelope.index) m.flying), and_right (nat_lt x.envelope.index (length ts)) (is_open ls x.envelope.index) m.flying)

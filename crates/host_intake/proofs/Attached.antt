@@ -5,10 +5,8 @@ use Rattle.std.specs.Bool.{then_some}
 use Rattle.std.specs.List.{cons_option}
 use Rattle.std.specs.Option.{is_some, option_map_or}
 use Rattle.std.proofs.lemmas.Bool.{leb-true}
-use Rattle.host_model.specs.declared.memory.MemEvent.{MemEvent}
-use Rattle.host_model.specs.declared.memory.MemEvent.TheVariants.{Attach}
-use Rattle.host_model.specs.ClientEntries.{lent_by, lent_in}
-use Rattle.host_memory.specs.Held.{attachment_by, attachment_of, closer_of, is_before_close, is_released, pages_for, standing_in}
+use Rattle.host_model.specs.{MemEvent, Attach, lent_by, lent_in}
+use Rattle.host_memory.specs.{attachment_by, attachment_of, closer_of, is_before_close, is_released, pages_for, standing_in}
 
 -- ---- one history
 

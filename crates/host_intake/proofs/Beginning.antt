@@ -2,15 +2,11 @@
 use Rattle.std.proofs.Common.{◌≡◌, ℕ, zero, suc, ◌+◌, ◌≤◌, ◌<◌, ◌==◌, Bool, List, [], length, map, Some, None, refl, sym, ap, ◌∙◌, arith, eq-eqb}
 use Rattle.std.specs.Prelude.{slice_get}
 use Rattle.host_block.specs.declared.range.Range.{Range}
-use Rattle.host_group.specs.declared.seat.CellSeat.{CellSeat}
-use Rattle.host_group.specs.declared.view.Row.{Row}
-use Rattle.host_group.specs.Seats.{IsAdmittingOf, seat_cells, admitted, back, next}
-use Rattle.host_rings.specs.RequestEnds.{TakerState}
-use Rattle.host_turn.specs.History.{entries_of}
-use Rattle.host_turn.specs.Seats.{IsOutside, number, seen_by}
-use Rattle.host_intake.specs.Intaken.{IsIntake}
-use Rattle.host_intake.specs.Members.{backs, row_ending}
-use Rattle.host_intake.specs.State.{IsForAdmissions, MemorySeat}
+use Rattle.host_group.specs.{CellSeat, Row, IsAdmittingOf, seat_cells, admitted, back, next}
+use Rattle.host_rings.specs.{TakerState}
+use Rattle.host_log.specs.{entries_of}
+use Rattle.host_turn.specs.{IsOutside, number, seen_by}
+use Rattle.host_intake.specs.{IsIntake, backs, row_ending, IsForAdmissions, MemorySeat}
 use Rattle.host_intake.proofs.Judging.{hand_of, passes_some}
 
 none_at : {A : Type 0} (n : ℕ) (x : A) → slice_get [] n ≡ Some x → ⊥

@@ -3,7 +3,7 @@ use Rattle.std.proofs.Common.{◌≡◌, ◌≢◌, ◌⊎◌, inl, inr, ℕ, ze
 use Rattle.std.specs.List.{range_with_len}
 use Rattle.std.proofs.lemmas.Bool.Decides.{eqb_tells}
 use Rattle.std.proofs.lemmas.List.Elements.{filter-append}
-use Rattle.host_model.specs.Lists.{below, count}
+use Rattle.host_model.specs.{below, count}
 
 suc_is : (n : ℕ) → suc n ≡ n + 1
 suc_is n = omega arith
@@ -70,7 +70,7 @@ and_none a = omega arith
 next_to : (a n : ℕ) → a + 1 + n ≡ a + suc n
 next_to a n = omega arith
 
-snoc_from : (a n : ℕ) → range_with_len a (suc n) ≡ range_with_len a n ++ (a + n) ∷ []
+pub snoc_from : (a n : ℕ) → range_with_len a (suc n) ≡ range_with_len a n ++ (a + n) ∷ []
 snoc_from a zero = ap (λ z. z ∷ []) (and_none a)
 snoc_from a (suc n) = ap (λ l. a ∷ l) (snoc_from (a + 1) n ∙ ap (λ z. range_with_len (a + 1) n ++ z ∷ []) (next_to a n))
 

@@ -1,11 +1,8 @@
 -- How the phases of a session follow each other.
 use Rattle.std.proofs.Common.{◌≡◌, true, false, ◌&&◌, List, [], ◌∷◌, ◌++◌, refl, sym, ap, ◌∙◌}
-use Rattle.host_model.specs.Lists.{is_nil, last}
-use Rattle.host_intake.specs.declared.entry.Phase.{Phase}
-use Rattle.host_intake.specs.declared.entry.Phase.TheVariants.{Running, Draining, Aborted, Closed}
-use Rattle.host_intake.specs.Ledgers.{is_course, is_last_turn, is_shut}
-use Rattle.host_intake.specs.Told.{is_ending}
-use Rattle.host_intake.proofs.Ledgering.{and_left, and_right}
+use Rattle.host_model.specs.{is_nil, last}
+use Rattle.host_intake.specs.{Phase, Running, Draining, Aborted, Closed, is_course, is_last_turn, is_shut, is_ending}
+use Rattle.host_log.proofs.Bools.{and_left, and_right}
 
 never : {A : Type 0} → false ≡ true → A
 never e = absurd (cc)

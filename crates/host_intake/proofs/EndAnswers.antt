@@ -10,22 +10,10 @@ use Rattle.std.proofs.lemmas.List.FromFn.{length-range_with_len}
 use Rattle.std.proofs.lemmas.Option.{slice_get_within}
 use Rattle.host_record.specs.declared.request.Request.{Request}
 use Rattle.host_record.specs.declared.status.Status.{Status}
-use Rattle.host_record.specs.Command.{is_last}
-use Rattle.host_record.specs.Request.{request_of}
-use Rattle.host_record.specs.Status.{status_number}
-use Rattle.host_model.specs.declared.row.TakenRow.{TakenRow}
-use Rattle.host_model.specs.Answers.{answer, first_failure}
-use Rattle.host_model.specs.Groups.{answered_by, answers_for, closings, instance_of, is_closing, is_member, same_instance}
-use Rattle.host_model.specs.Lists.{below, count}
-use Rattle.host_model.specs.Log.{request_at}
-use Rattle.host_model.specs.Taking.{row_at}
-use Rattle.host_group.specs.declared.group_end.GroupEnd.{GroupEnd}
-use Rattle.host_group.specs.declared.view.Member.{Member}
-use Rattle.host_group.specs.declared.view.Row.{Row}
-use Rattle.host_group.specs.Ends.{IsEnd, closers_of, instance_rows, members_of, row_of}
-use Rattle.host_group.specs.Seats.{member}
-use Rattle.host_intake.specs.Laws.{HaveOutcomes}
-use Rattle.host_intake.specs.Members.{member_at, members}
+use Rattle.host_record.specs.{is_last, request_of, status_number}
+use Rattle.host_model.specs.{TakenRow, answer, first_failure, answered_by, answers_for, closings, instance_of, is_closing, is_member, same_instance, below, count, request_at, row_at}
+use Rattle.host_group.specs.{GroupEnd, Member, Row, IsEnd, closers_of, instance_rows, members_of, row_of, member}
+use Rattle.host_intake.specs.{HaveOutcomes, member_at, members}
 use Rattle.host_intake.proofs.Membering.{take_next}
 use Rattle.host_intake.proofs.Stalling.{in_instance, is_of, of_instance}
 use Rattle.host_intake.proofs.Verdicts.{numbered_place}

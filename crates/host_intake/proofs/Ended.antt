@@ -3,29 +3,13 @@ use Rattle.std.proofs.Common.{◌≡◌, ℕ, suc, ◌+◌, ◌≤◌, Bool, tru
 use Rattle.std.specs.List.{list_any}
 use Rattle.std.proofs.lemmas.List.Folds.{list_all-append}
 use Rattle.atomic_table.specs.Seated.{TableId}
-use Rattle.host_model.specs.Lists.{below, count}
-use Rattle.host_model.specs.Log.{request_at}
-use Rattle.host_group.specs.declared.seat.CellSeat.{CellSeat}
-use Rattle.host_group.specs.declared.view.Row.{Row}
-use Rattle.host_group.specs.Seats.{IsAdmittingOf, IsNoneOut, seat_cells, admitted, back, next, row}
+use Rattle.host_model.specs.{below, count, request_at}
+use Rattle.host_group.specs.{CellSeat, Row, IsAdmittingOf, IsNoneOut, seat_cells, admitted, back, next, row}
 use Rattle.host_memory.proofs.Pushed.{filter_map_skip, filter_map_add}
-use Rattle.host_rings.specs.declared.slip.Slip.{Slip}
-use Rattle.host_turn.specs.Seats.{number, seen_by}
-use Rattle.host_intake.specs.declared.entry.IntakeEntry.TheVariants.{Landed}
-use Rattle.host_intake.specs.declared.entry.Phase.{Phase}
-use Rattle.host_intake.specs.declared.entry.Phase.TheVariants.{Closed}
-use Rattle.host_intake.specs.declared.entry.RecordEnd.{RecordEnd}
-use Rattle.host_intake.specs.Answers.{answer_owed, row_slip}
-use Rattle.host_intake.specs.Rights.{AreSettled}
+use Rattle.host_rings.specs.{Slip}
+use Rattle.host_turn.specs.{number, seen_by}
+use Rattle.host_intake.specs.{Landed, Phase, Closed, RecordEnd, answer_owed, row_slip, AreSettled, Taking, Landing, taking_of, landing_of, takings, landings, requests_of, IsIntake, is_turned_below, is_course, AreInCells, AreLanded, IsAnswered, backs, is_member_at, is_right_out, is_lander, landing_ending, row_ending, IntakeState, AreTaken, flights_in, is_aborted_phase, is_flying, is_open, kept_slips, turn_of, turns, phase_in, AreWaiting, is_waiting_at}
 use Rattle.host_intake.proofs.Membering.{member_index, count_members}
-use Rattle.host_intake.specs.Entries.{Taking, Landing, taking_of, landing_of, takings, landings, requests_of}
-use Rattle.host_intake.specs.Intaken.{IsIntake, is_turned_below}
-use Rattle.host_intake.specs.Ledgers.{is_course}
-use Rattle.host_intake.specs.Members.{AreInCells, AreLanded, IsAnswered, backs, is_member_at, is_right_out, is_lander, landing_ending, row_ending}
-use Rattle.host_intake.specs.State.{IntakeState}
-use Rattle.host_intake.specs.Takings.{AreTaken}
-use Rattle.host_intake.specs.Told.{flights_in, is_aborted, is_flying, is_open, kept_slips, turn_of, turns, phase_in}
-use Rattle.host_intake.specs.Waits.{AreWaiting, is_waiting_at}
 use Rattle.host_intake.proofs.Keeping.{popped_from}
 use Rattle.host_intake.proofs.Landing.{landed_more, waiting_more, cells_lone, cells_member, less_ended}
 use Rattle.host_intake.proofs.Ledgering.{phase_from}
@@ -46,7 +30,7 @@ module _ (s : IntakeState) (k : IsIntake s) (hand i : ℕ) (end : RecordEnd) (an
       let ps : turns fs ≡ turns es = filter_map_skip turn_of es e refl in
       let ph : phase_in fs ≡ phase_in es = phase_from es fs ps in
       record {
-        popped = popped_from s.room es fs s.held s.taker ts (ap (λ (a : List Phase). list_any is_aborted a) ps) k.popped;
+        popped = popped_from s.room es fs s.held s.taker ts (ap (λ (a : List Phase). list_any is_aborted_phase a) ps) k.popped;
         resting = k.resting;
         taken = subst (λ (z : List Taking). AreTaken s.part (number s.memory_seat) (seen_by s.memory_seat) z) (sym ts) k.taken;
         landed = subst (λ (z : List Landing). AreLanded (takings fs) z) (sym ls) (subst (λ (z : List Taking). AreLanded z (landings es ++ m ∷ [])) (sym ts) (landed_more (takings es) (landings es) m flying k.landed lander answered));

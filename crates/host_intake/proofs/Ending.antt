@@ -1,31 +1,24 @@
 -- What an intake keeps beside its history, once a record ended.
-use Rattle.std.proofs.Common.{◌≡◌, ℕ, zero, suc, ◌+◌, ◌-◌, ◌≤◌, ◌<◌, ◌==◌, Bool, true, false, not, ◌&&◌, ◌||◌, nat_lt, cond, List, [], ◌∷◌, ◌++◌, length, filter_map, find, map, set, get_or, drop, Option, Some, None, refl, sym, ap, subst, ◌∙◌, arith, length-append, append-nil, eq-eqb}
+use Rattle.std.proofs.Common.{◌≡◌, ℕ, zero, suc, ◌+◌, ◌-◌, ◌≤◌, ◌<◌, ◌==◌, Bool, true, false, not, ◌&&◌, nat_lt, cond, List, [], ◌∷◌, ◌++◌, length, filter_map, find, map, set, get_or, drop, Option, Some, None, refl, sym, ap, subst, ◌∙◌, arith, length-append, append-nil, eq-eqb}
 use Rattle.std.specs.Prelude.{option_to_list}
 use Rattle.std.specs.List.{list_any, list_all, range_with_len}
 use Rattle.std.specs.Option.{option_map_or, option_or}
 use Rattle.std.proofs.lemmas.Bool.{ltb-true, lt-ltb, ne_eqb}
 use Rattle.std.proofs.lemmas.List.{drop-append-le}
 use Rattle.std.proofs.lemmas.List.Folds.{list_all-append, find-append}
-use Rattle.host_block.specs.Room.{WithRoom}
+use Rattle.host_block.specs.{WithRoom}
 use Rattle.host_record.specs.declared.status.Status.TheVariants as status
-use Rattle.host_group.specs.Ends.{greatest}
-use Rattle.host_model.specs.declared.row.TakenRow.{TakenRow}
-use Rattle.host_model.specs.Lists.{all_with_before, below, count, last}
+use Rattle.host_group.specs.{greatest}
+use Rattle.host_model.specs.{TakenRow, all_with_before, below, count, last}
 use Rattle.host_model.proofs.Growth.{all_with_before-push}
 use Rattle.host_model.proofs.ListTests.{and-from}
-use Rattle.host_rings.specs.declared.slip.Slip.{Slip}
+use Rattle.host_rings.specs.{Slip}
 use Rattle.host_memory.proofs.Pushed.{filter_map_skip, filter_map_add, count_skip}
-use Rattle.host_intake.specs.declared.entry.IntakeEntry.{IntakeEntry}
-use Rattle.host_intake.specs.declared.entry.IntakeEntry.TheVariants.{Landed}
-use Rattle.host_intake.specs.declared.entry.Phase.{Phase}
-use Rattle.host_intake.specs.declared.entry.Phase.TheVariants.{Running, Draining, Aborted, Closed}
-use Rattle.host_intake.specs.declared.entry.RecordEnd.{RecordEnd}
-use Rattle.host_intake.specs.Entries.{Taking, Landing, taking_of, landing_of, takings, landings, is_landing_of, place_of}
-use Rattle.host_intake.specs.Ledgers.{IsLedger, is_before, is_course, is_last_turn, is_shut, slips_to_keep, is_taken_open}
-use Rattle.host_intake.specs.Told.{is_open, turn_of, turns, kept_by, is_passed, is_flying, kept_slips, phase_in, was_aborted, is_aborted, is_ending, row_in, rows_in, outcome_in, seen_of}
+use Rattle.host_intake.specs.{IntakeEntry, Landed, Phase, Running, Draining, Aborted, Closed, RecordEnd, Taking, Landing, taking_of, landing_of, takings, landings, is_landing_of, place_of, IsLedger, is_before, is_course, is_last_turn, is_shut, slips_to_keep, is_taken_open, is_open, turn_of, turns, kept_by, is_passed, is_flying, kept_slips, phase_in, was_aborted, is_aborted_phase, is_ending, row_in, rows_in, outcome_in, seen_of}
 use Rattle.host_intake.proofs.Counting.{but_for, count_cut, count_agree}
 use Rattle.host_intake.proofs.Pushing.{kept_few, open_landed}
-use Rattle.host_intake.proofs.Ledgering.{and_left, and_right, course_few, find_none, phase_from, room_for}
+use Rattle.host_intake.proofs.Ledgering.{course_few, find_none, phase_from, room_for}
+use Rattle.host_log.proofs.Bools.{or_none, and_left, and_right}
 
 sym_zero : (n : ℕ) → n ≡ 0 + n
 sym_zero n = omega arith
@@ -78,13 +71,9 @@ module _ (ls : List Landing) (l : Landing) (unended : list_any (is_landing_of l.
 -- ---- what is kept
 
 -- while a session isn't closed, it was aborted where that is its phase
-pub aborted_is : (ps : List Phase) → is_course ps ≡ true → (last Running ps ≡ Closed → ⊥) → list_any is_aborted ps ≡ is_aborted (last Running ps)
+pub aborted_is : (ps : List Phase) → is_course ps ≡ true → (last Running ps ≡ Closed → ⊥) → list_any is_aborted_phase ps ≡ is_aborted_phase (last Running ps)
 aborted_is [] h n = refl
-aborted_is (p ∷ []) h n = or_none (is_aborted p)
-  where
-    or_none : (b : Bool) → (b || false) ≡ b
-    or_none true = refl
-    or_none false = refl
+aborted_is (p ∷ []) h n = or_none (is_aborted_phase p)
 aborted_is (p ∷ Closed ∷ []) h n = absurd (n refl)
 aborted_is (p ∷ Running ∷ []) h n = absurd (let b = and_right (is_ending p) (is_last_turn (Running ∷ [])) h in cc)
 aborted_is (p ∷ Draining ∷ []) h n = absurd (let b = and_right (is_ending p) (is_last_turn (Draining ∷ [])) h in cc)
@@ -109,14 +98,14 @@ pub kept_landed : (es : List IntakeEntry) (hand i : ℕ) (end : RecordEnd) (answ
 kept_landed es hand i end answer flag few course unshut =
     let x = Landed hand i end answer flag in
     let ks = filter_map kept_by es in let more = cond flag (option_to_list answer) [] in
-    ap (λ a. cond (list_any is_aborted a) [] (drop (count is_passed (es ++ x ∷ [])) (filter_map kept_by (es ++ x ∷ [])))) (filter_map_skip turn_of es x refl)
+    ap (λ a. cond (list_any is_aborted_phase a) [] (drop (count is_passed (es ++ x ∷ [])) (filter_map kept_by (es ++ x ∷ [])))) (filter_map_skip turn_of es x refl)
     ∙ (ap (λ n. cond (was_aborted es) [] (drop n (filter_map kept_by (es ++ x ∷ [])))) (count_skip is_passed es x refl)
     ∙ (ap (λ l. cond (was_aborted es) [] (drop (count is_passed es) l)) (answers_pushed es hand i end answer flag)
     ∙ (kept_step (was_aborted es) flag answer (count is_passed es) ks more refl few
     ∙ ap (λ b. kept_slips es ++ cond (flag && not b) (option_to_list answer) []) (aborted_is (turns es) course unshut))))
 
 kept_more : (phase : Phase) (flag : Bool) (answer : Option Slip) → length (slips_to_keep phase flag answer) ≤ 1
-kept_more phase flag answer = one (flag && not (is_aborted phase)) answer
+kept_more phase flag answer = one (flag && not (is_aborted_phase phase)) answer
   where
     one : (b : Bool) (o : Option Slip) → length (cond b (option_to_list o) []) ≤ 1
     one true None = omega arith

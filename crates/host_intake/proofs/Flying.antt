@@ -6,23 +6,15 @@ use Rattle.std.specs.Option.{option_map_or}
 use Rattle.std.proofs.lemmas.Bool.{eqb-true, lt-ltb}
 use Rattle.std.proofs.lemmas.Bool.Decides.{eqb_tells}
 use Rattle.std.proofs.lemmas.Option.{slice_get_within}
-use Rattle.host_turn.specs.History.{entries_of}
-use Rattle.host_intake.specs.declared.entry.IntakeEntry.{IntakeEntry}
-use Rattle.host_intake.specs.declared.entry.IntakeEntry.TheVariants.{Took, Landed, Passed, Turned}
-use Rattle.host_intake.specs.Entries.{Taking, Landing, is_landing_of, landing_of, landings, maker_of, takings}
-use Rattle.host_intake.specs.Members.{AreLanded, is_by_taker, is_lander}
-use Rattle.host_intake.specs.Told.{is_flying}
-use Rattle.host_intake.proofs.Ledgering.{and_left, and_right}
+use Rattle.host_log.specs.{entries_of}
+use Rattle.host_intake.specs.{IntakeEntry, Took, Landed, Passed, Turned, Taking, Landing, is_landing_of, landing_of, landings, maker_of, takings, AreLanded, is_by_taker, is_lander, is_flying}
+use Rattle.host_log.proofs.Bools.{or_parts, or_none, and_left, and_right}
 
 module _ (ts : List Taking) (hand i : ℕ) (t : Taking) (at : slice_get ts i ≡ Some t) (mine : t.hand ≡ hand) (still : t.waits ≡ false) where
   -- only the hand itself tells its end
   lander_is : (h : ℕ) → is_lander h i ts ≡ true → (h == hand) ≡ true
   lander_is h e = step t.waits still (sym (ap (λ (o : Option Taking). option_map_or (λ (u : Taking). u.hand == h || u.waits) o false) at) ∙ e)
     where
-      or_none : (b : Bool) → (b || false) ≡ b
-      or_none true = refl
-      or_none false = refl
-
       step : (w : Bool) → w ≡ false → (t.hand == h || w) ≡ true → (h == hand) ≡ true
       step w off y = eq-eqb h hand (sym (eqb-true t.hand h (sym (or_none (t.hand == h)) ∙ (ap (λ b. t.hand == h || b) (sym off) ∙ y))) ∙ mine)
 
@@ -32,10 +24,6 @@ module _ (ts : List Taking) (hand i : ℕ) (t : Taking) (at : slice_get ts i ≡
   skipped : (x : IntakeEntry) (b : Bool) (xs : List IntakeEntry) → landing_of x ≡ None → list_any (is_landing_of i) (landings (cond b (x ∷ xs) xs)) ≡ list_any (is_landing_of i) (landings xs)
   skipped x true xs e = ap (λ (o : Option Landing). list_any (is_landing_of i) (cons_option o (landings xs))) e
   skipped x false xs e = refl
-
-  or_parts : (a b : Bool) → (a || b) ≡ false → (a ≡ false) × (b ≡ false)
-  or_parts true b e = absurd (cc)
-  or_parts false b e = (refl, e)
 
   none_else : (fs : List IntakeEntry) → list_all (is_by_taker ts) (landings fs) ≡ true → list_any (is_landing_of i) (landings (own fs)) ≡ false → list_any (is_landing_of i) (landings fs) ≡ false
   none_else [] all none = refl

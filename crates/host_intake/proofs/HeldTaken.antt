@@ -5,31 +5,14 @@ use Rattle.std.proofs.lemmas.List.{map-append, take-append-drop}
 use Rattle.std.proofs.lemmas.List.Folds.{list_all-append}
 use Rattle.atomic_table.specs.Seated.{TableId}
 use Rattle.host_record.specs.declared.request.Request.{Request}
-use Rattle.host_record.specs.Command.{is_last}
-use Rattle.host_model.specs.Groups.{closings, is_member}
-use Rattle.host_model.specs.Lists.{below, count}
-use Rattle.host_group.specs.declared.cells.Cells.{Cells}
-use Rattle.host_group.specs.declared.seat.CellSeat.{CellSeat}
-use Rattle.host_group.specs.declared.view.Member.{Member}
-use Rattle.host_group.specs.declared.view.Row.{Row}
-use Rattle.host_group.specs.Seats.{IsAdmittingOf, IsFewerOut, IsRightOf, cells_id, seat_cells, admitted, back, member, next, row}
-use Rattle.host_group.specs.Views.{fresh_row}
+use Rattle.host_record.specs.{is_last}
+use Rattle.host_model.specs.{closings, is_member, below, count}
+use Rattle.host_group.specs.{Cells, CellSeat, Member, Row, IsAdmittingOf, IsFewerOut, IsRightOf, cells_id, seat_cells, admitted, back, member, next, row, fresh_row}
 use Rattle.host_group.specs.Views as cell
 use Rattle.host_memory.proofs.Pushed.{filter_map_skip, filter_map_add, count_skip}
-use Rattle.host_rings.specs.declared.envelope.Envelope.{Envelope}
-use Rattle.host_turn.specs.Seats.{number, seen_by}
-use Rattle.host_intake.specs.declared.entry.Phase.{Phase}
-use Rattle.host_intake.specs.declared.waiting.Waiting.{Waiting}
-use Rattle.host_intake.specs.Admissions.{IsMemberAdmitted, IsOpen, entry_for}
-use Rattle.host_intake.specs.Entries.{Taking, Landing, taking_of, landing_of, takings, landings, envelope_of, place_of, request_in, requests_of}
-use Rattle.host_intake.specs.Intaken.{IsIntake, ArePopped, IsResting, is_turned_below}
-use Rattle.host_intake.specs.Ledgers.{is_course}
-use Rattle.host_intake.specs.Members.{AreInCells, AreLanded, is_member_at, member_at}
-use Rattle.host_intake.specs.Rights.{HasRight}
-use Rattle.host_intake.specs.State.{IntakeState, MemorySeat}
-use Rattle.host_intake.specs.Takings.{AreTaken}
-use Rattle.host_intake.specs.Told.{flights_in, is_open, is_passed, kept_by, kept_slips, phase_in, turn_of, turns, was_aborted}
-use Rattle.host_intake.specs.Waits.{AreWaiting}
+use Rattle.host_rings.specs.{Envelope}
+use Rattle.host_turn.specs.{number, seen_by}
+use Rattle.host_intake.specs.{Phase, Waiting, IsMemberAdmitted, IsOpen, taking_entry, Taking, Landing, taking_of, landing_of, takings, landings, envelope_of, place_of, request_in, requests_of, IsIntake, ArePopped, IsResting, is_turned_below, is_course, AreInCells, AreLanded, is_member_at, member_at, HasRight, IntakeState, MemorySeat, AreTaken, flights_in, is_open, is_passed, kept_by, kept_slips, phase_in, turn_of, turns, was_aborted, AreWaiting}
 use Rattle.host_intake.proofs.Admitting.{cells_taken_lone, cells_taken_member, landed_taken, member_new}
 use Rattle.host_intake.proofs.Ended.{count_bound, rights_out}
 use Rattle.host_intake.proofs.Ledgering.{kept_from, phase_from}
@@ -92,9 +75,9 @@ module _ (s : IntakeState) (k : IsIntake s) (e : Envelope) (held : s.held ≡ So
 
     pub intake_taken : (m : MemorySeat) (q : CellSeat) (ws : List Waiting) → IsResting s.room m → number m ≡ number s.memory_seat → AreTaken s.part (number s.memory_seat) (seen_by m) (takings s.entries ++ t ∷ [])
         → seat_cells q ≡ seat_cells s.cell_seat → AreInCells (takings s.entries ++ t ∷ []) (landings s.entries) q → AreWaiting (seat_cells s.cell_seat) (takings s.entries ++ t ∷ []) (landings s.entries) ws
-        → IsIntake (record s { entries = s.entries ++ entry_for t ∷ []; held = None; waiting = ws; memory_seat = m; cell_seat = q })
+        → IsIntake (record s { entries = s.entries ++ taking_entry t ∷ []; held = None; waiting = ws; memory_seat = m; cell_seat = q })
     intake_taken m q ws resting same taken cells in_cells waiting =
-        let es = s.entries in let x = entry_for t in let fs = es ++ x ∷ [] in
+        let es = s.entries in let x = taking_entry t in let fs = es ++ x ∷ [] in
         let ts : takings fs ≡ takings es ++ t ∷ [] = filter_map_add taking_of es x t refl in
         let ls : landings fs ≡ landings es = filter_map_skip landing_of es x refl in
         let ps : turns fs ≡ turns es = filter_map_skip turn_of es x refl in
@@ -136,17 +119,17 @@ module _ (s : IntakeState) (k : IsIntake s) (e : Envelope) (held : s.held ≡ So
       right_given (Some p) m =
           let mem : is_member (request_in t) ≡ true = subst (λ (z : Request). is_member z ≡ true) named m.0 in
           let g = (request_in t).group in
-          let fresh : row p ≡ fresh_row (member g (cell.closings g (admitted s.cell_seat)) e.index (request_in t).reqid (is_last (request_in t))) =
-          subst (λ (z : Request). row p ≡ fresh_row (member z.group (cell.closings z.group (admitted s.cell_seat)) e.index z.reqid (is_last z))) named m.2 in
-          let is : (row p).member ≡ member g (cell.closings g (admitted s.cell_seat)) e.index (request_in t).reqid (is_last (request_in t)) = ap (λ (z : Row). z.member) fresh in (
+          let fresh : row p ≡ fresh_row (member g (cell.members_closing g (admitted s.cell_seat)) e.index (request_in t).reqid (is_last (request_in t))) =
+          subst (λ (z : Request). row p ≡ fresh_row (member z.group (cell.members_closing z.group (admitted s.cell_seat)) e.index z.reqid (is_last z))) named m.2 in
+          let is : (row p).member ≡ member g (cell.members_closing g (admitted s.cell_seat)) e.index (request_in t).reqid (is_last (request_in t)) = ap (λ (z : Row). z.member) fresh in (
             mem,
             record {
               right_of = subst (λ (z : Request). IsRightOf (cells_id cells) z.group p) named m.1;
               unused = fresh ∙ ap fresh_row (sym is);
               member = ap (λ i. member_at (requests_of (takings s.entries ++ t ∷ [])) i) placed ∙ (member_new (takings s.entries) t
                   ∙ (ap (λ b. cond b (Some (member g (closings g (requests_of (takings s.entries))) (length (takings s.entries)) (request_in t).reqid (is_last (request_in t)))) None) mem
-                  ∙ (ap (λ n. Some (member g n (length (takings s.entries)) (request_in t).reqid (is_last (request_in t)))) (sym (ap (λ l. cell.closings g l) k.cells.told ∙ closings_same g (requests_of (takings s.entries))))
-                  ∙ (ap (λ n. Some (member g (cell.closings g (admitted s.cell_seat)) n (request_in t).reqid (is_last (request_in t)))) (sym index_next) ∙ ap (λ (w : Member). Some w) (sym is)))));
+                  ∙ (ap (λ n. Some (member g n (length (takings s.entries)) (request_in t).reqid (is_last (request_in t)))) (sym (ap (λ l. cell.members_closing g l) k.cells.told ∙ closings_same g (requests_of (takings s.entries))))
+                  ∙ (ap (λ n. Some (member g (cell.members_closing g (admitted s.cell_seat)) n (request_in t).reqid (is_last (request_in t)))) (sym index_next) ∙ ap (λ (w : Member). Some w) (sym is)))));
             },
           )
 
@@ -156,5 +139,5 @@ module _ (s : IntakeState) (k : IsIntake s) (e : Envelope) (held : s.held ≡ So
           (cells_taken_lone (takings s.entries) (landings s.entries) t k.landed s.cell_seat k.cells (subst (λ (z : Request). is_member z ≡ false) named m.0))
       cells_given (Some p) m resting came =
           cells_taken_member (takings s.entries) (landings s.entries) t k.landed s.cell_seat k.cells (subst (λ (z : Request). is_member z ≡ true) named m.0) q resting came (m.4 ∙ ap (λ i. i + 1) index_next)
-          (subst (λ (i : ℕ). admitted q ≡ admitted s.cell_seat ++ member (request_in t).group (cell.closings (request_in t).group (admitted s.cell_seat)) i (request_in t).reqid (is_last (request_in t)) ∷ []) index_next
-          (subst (λ (z : Request). admitted q ≡ admitted s.cell_seat ++ member z.group (cell.closings z.group (admitted s.cell_seat)) e.index z.reqid (is_last z) ∷ []) named m.3))
+          (subst (λ (i : ℕ). admitted q ≡ admitted s.cell_seat ++ member (request_in t).group (cell.members_closing (request_in t).group (admitted s.cell_seat)) i (request_in t).reqid (is_last (request_in t)) ∷ []) index_next
+          (subst (λ (z : Request). admitted q ≡ admitted s.cell_seat ++ member z.group (cell.members_closing z.group (admitted s.cell_seat)) e.index z.reqid (is_last z) ∷ []) named m.3))

@@ -7,26 +7,16 @@ use Rattle.std.proofs.lemmas.List.Concat.{flat_map-append}
 use Rattle.std.proofs.lemmas.List.Elements.{filter-append}
 use Rattle.std.proofs.lemmas.Option.{slice_get_within}
 use Rattle.host_block.specs.declared.range.Range.{Range}
-use Rattle.host_model.specs.declared.memory.MemEntry.{MemEntry}
-use Rattle.host_model.specs.declared.memory.MemEvent.{MemEvent}
-use Rattle.host_model.specs.declared.memory.MemEvent.TheVariants.{Pin, Release}
+use Rattle.host_model.specs.{MemEntry, MemEvent, Pin, Release, Accepted, Refused, below, index_of, judged, is_accepted}
 use Rattle.host_model.specs.declared.memory.MemEvent.TheVariants as mem
 use Rattle.host_model.specs.declared.verdict.Verdict.{Verdict}
-use Rattle.host_model.specs.declared.verdict.Verdict.TheVariants.{Accepted, Refused}
-use Rattle.host_model.specs.Lists.{below}
-use Rattle.host_model.specs.RecordEntries.{index_of}
-use Rattle.host_model.specs.Verdict.{judged, is_accepted}
-use Rattle.host_record.specs.declared.opcode.Opcode.{Opcode}
-use Rattle.host_record.specs.declared.opcode.Opcode.TheVariants.{Read, Write, Flush, Trim, Close}
-use Rattle.host_record.specs.Command.{opcode, is_close}
-use Rattle.host_memory.specs.Held.{standing_in}
-use Rattle.host_memory.specs.Pins.{pins_on}
-use Rattle.host_memory.specs.State.{events}
-use Rattle.host_turn.specs.History.{entries_of, Continues}
-use Rattle.host_intake.specs.Entries.{Taking, place_of, request_in}
-use Rattle.host_intake.specs.Takings.{AreTaken, IsJudged, IsPastJudging, judged_on, left_by, made, made_for, made_under, under}
+use Rattle.host_record.specs.{Opcode, Read, Write, Flush, Trim, Close, opcode, is_close}
+use Rattle.host_memory.specs.{standing_in, pins_on, events}
+use Rattle.host_log.specs.{entries_of, Continues}
+use Rattle.host_intake.specs.{Taking, place_of, request_in, AreTaken, IsJudged, IsPastJudging, judged_on, left_by, made, made_for, made_under, under}
 use Rattle.host_intake.proofs.Counting.{below_more}
 use Rattle.host_intake.proofs.Removing.{get_snoc}
+use Rattle.host_log.proofs.Places.{get_append, get_last, nothing_more}
 
 abbrev pub hand_of : MemEntry → ℕ
 hand_of e = e.hand
@@ -42,7 +32,7 @@ left_stays n m xs ys zs left e h long at =
     let a = ap length at in let b = length-take m (drop n xs) in
     ap (λ l. take m (drop n l)) (sym e) ∙ (ap (λ l. take m l) (drop-append-le n xs zs h) ∙ (take-append-le m (drop n xs) zs (omega arith) ∙ at))
 
-length_left : (number : ℕ) (t : Taking) → length (left_by number t) ≡ length (made t)
+pub length_left : (number : ℕ) (t : Taking) → length (left_by number t) ≡ length (made t)
 length_left number t = length-map (made t) (λ (what : MemEvent). record { hand = number; what = what })
 
 -- a record that was judged on a history is so on a longer one
@@ -61,24 +51,11 @@ judged_longer part number xs ys t p k =
 -- ---- elements
 
 module _ {A : Type 0} where
-  pub get_append : (xs ys : List A) (n : ℕ) (x : A) → slice_get (xs ++ ys) n ≡ Some x → (slice_get xs n ≡ Some x) ⊎ ((m : ℕ) × (n ≡ length xs + m) × (slice_get ys m ≡ Some x))
-  get_append [] ys n x e = inr (n, omega arith, e)
-  get_append (y ∷ xs) ys zero x e = inl e
-  get_append (y ∷ xs) ys (suc n) x e = step (get_append xs ys n x e)
-    where
-      step : (slice_get xs n ≡ Some x) ⊎ ((m : ℕ) × (n ≡ length xs + m) × (slice_get ys m ≡ Some x)) → (slice_get xs n ≡ Some x) ⊎ ((m : ℕ) × (suc n ≡ suc (length xs) + m) × (slice_get ys m ≡ Some x))
-      step (inl f) = inl f
-      step (inr f) = inr (f.0, (let g = f.1 in omega arith), f.2)
-
   pub get_more : (xs : List A) (x y : A) (n : ℕ) → slice_get xs n ≡ Some y → slice_get (xs ++ x ∷ []) n ≡ Some y
   get_more [] x y zero e = absurd (cc)
   get_more [] x y (suc n) e = absurd (cc)
   get_more (z ∷ zs) x y zero e = e
   get_more (z ∷ zs) x y (suc n) e = get_more zs x y n e
-
-  pub get_last : (xs : List A) (x : A) → slice_get (xs ++ x ∷ []) (length xs) ≡ Some x
-  get_last [] x = refl
-  get_last (z ∷ zs) x = get_last zs x
 
   -- an element that passes is among those that pass
   pub passes_some : (p : A → Bool) (xs : List A) (n : ℕ) (x : A) → slice_get xs n ≡ Some x → p x ≡ true → filter p xs ≡ [] → ⊥
@@ -95,10 +72,6 @@ module _ {A : Type 0} where
       rest true z l none = absurd (let n = ap length none in omega arith)
       rest false z l none = none
 
-same_rest : {A : Type 0} (xs ys : List A) → xs ++ ys ≡ xs → ys ≡ []
-same_rest xs [] e = refl
-same_rest xs (y ∷ ys) e = absurd (let n : length (xs ++ y ∷ ys) ≡ length xs = ap length e in let m = length-append xs (y ∷ ys) in omega arith)
-
 -- ---- the history grew by entries of others
 
 pub taken_longer : (part : Range) (number : ℕ) (xs ys : List MemEntry) (ts : List Taking) → Continues hand_of number xs ys → AreTaken part number xs ts → AreTaken part number ys ts
@@ -111,7 +84,7 @@ taken_longer part number xs ys ts more k = record {
 }
   where
     none_new : entries_of hand_of number more.0.0 ≡ []
-    none_new = same_rest (entries_of hand_of number xs) (entries_of hand_of number more.0.0)
+    none_new = nothing_more (entries_of hand_of number xs) (entries_of hand_of number more.0.0)
         (sym (filter-append (λ e. hand_of e == number) xs more.0.0) ∙ (ap (λ l. entries_of hand_of number l) more.0.1 ∙ more.1))
 
     old_place : (n : ℕ) (e : MemEntry) → e.hand ≡ number → (slice_get xs n ≡ Some e) ⊎ ((m : ℕ) × (n ≡ length xs + m) × (slice_get more.0.0 m ≡ Some e)) → IsPastJudging ts n e.what

@@ -1,29 +1,18 @@
 -- What is true of an intake stays true where no record was taken and none ended.
-use Rattle.std.proofs.Common.{◌≡◌, ℕ, ◌+◌, ◌-◌, ◌≤◌, ◌<◌, ◌==◌, Bool, true, false, ◌&&◌, ◌||◌, cond, List, [], ◌∷◌, ◌++◌, length, filter_map, map, take, drop, Option, None, MatchOption, refl, sym, ap, subst, ◌∙◌, arith, eq-eqb}
+use Rattle.std.proofs.Common.{◌≡◌, ℕ, ◌+◌, ◌-◌, ◌≤◌, ◌<◌, ◌==◌, true, false, ◌&&◌, ◌||◌, cond, List, [], ◌∷◌, ◌++◌, length, filter_map, map, take, drop, Option, None, MatchOption, refl, sym, ap, subst, ◌∙◌, arith, eq-eqb}
 use Rattle.std.specs.List.{list_any}
 use Rattle.std.proofs.lemmas.List.Folds.{list_any-append, list_all-append}
 use Rattle.std.proofs.lemmas.List.{length-drop}
-use Rattle.host_group.specs.Seats.{seat_cells}
-use Rattle.host_model.specs.Lists.{count, last}
-use Rattle.host_rings.specs.declared.envelope.Envelope.{Envelope}
-use Rattle.host_rings.specs.declared.slip.Slip.{Slip}
-use Rattle.host_rings.specs.RequestEnds.{TakerState}
-use Rattle.host_turn.specs.Seats.{number, seen_by}
+use Rattle.host_group.specs.{seat_cells}
+use Rattle.host_model.specs.{count, last}
+use Rattle.host_rings.specs.{Envelope, Slip, TakerState}
+use Rattle.host_turn.specs.{number, seen_by}
 use Rattle.host_memory.proofs.Pushed.{filter_map_skip, filter_map_add, count_skip, count_add, last_snoc}
-use Rattle.host_intake.specs.declared.entry.IntakeEntry.{IntakeEntry}
-use Rattle.host_intake.specs.declared.entry.IntakeEntry.TheVariants.{Passed, Turned}
-use Rattle.host_intake.specs.declared.entry.Phase.{Phase}
-use Rattle.host_intake.specs.declared.entry.Phase.TheVariants.{Running, Closed}
-use Rattle.host_intake.specs.Entries.{Taking, Landing, taking_of, landing_of, takings, landings, envelope_of}
-use Rattle.host_intake.specs.Intaken.{IsIntake, ArePopped, listed, AreTurned, is_turned_below}
-use Rattle.host_intake.specs.Ledgers.{is_course}
-use Rattle.host_intake.specs.Members.{AreLanded, AreInCells}
-use Rattle.host_intake.specs.State.{IntakeState}
-use Rattle.host_intake.specs.Takings.{AreTaken}
-use Rattle.host_intake.specs.Told.{flights_in, turn_of, turns, kept_by, is_passed, kept_slips, phase_in, was_aborted, is_aborted}
-use Rattle.host_intake.specs.Waits.{AreWaiting}
+use Rattle.host_intake.specs.{IntakeEntry, Passed, Turned, Phase, Running, Closed, Taking, Landing, taking_of, landing_of, takings, landings, envelope_of, IsIntake, ArePopped, AreTurned, is_turned_below, is_course, AreLanded, AreInCells, IntakeState, AreTaken, flights_in, turn_of, turns, kept_by, is_passed, kept_slips, phase_in, was_aborted, is_aborted_phase, AreWaiting}
+use Rattle.host_memory.specs.{listed}
 use Rattle.host_intake.proofs.Ledgering.{phase_from}
 use Rattle.host_intake.proofs.Turning.{pass_step}
+use Rattle.host_log.proofs.Bools.{or_off, or_on}
 
 -- the held envelope and the taker, where the same records were taken
 pub popped_from : (room : ℕ) (es fs : List IntakeEntry) (held : Option Envelope) (taker : TakerState) → takings fs ≡ takings es → was_aborted fs ≡ was_aborted es → ArePopped room es held taker → ArePopped room fs held taker
@@ -37,14 +26,6 @@ popped_from room es fs held taker ts ab p = record {
   in_room = p.in_room;
   fits = p.fits;
 }
-
-or_off : (b c : Bool) → c ≡ false → (b || (c || false)) ≡ b
-or_off true c e = refl
-or_off false c e = ap (λ z. z || false) e
-
-or_on : (b c : Bool) → c ≡ true → (b || (c || false)) ≡ true
-or_on true c e = refl
-or_on false c e = ap (λ z. z || false) e
 
 module _ (s : IntakeState) (k : IsIntake s) where
   -- no record was taken, and none ended
@@ -74,13 +55,13 @@ module _ (s : IntakeState) (k : IsIntake s) where
       let ps : turns fs ≡ turns es = filter_map_skip turn_of es e refl in
       let ph : phase_in fs ≡ phase_in es = phase_from es fs ps in
       let slips : kept_slips fs ≡ drop 1 (kept_slips es) =
-      ap (λ (a : List Phase). cond (list_any is_aborted a) [] (drop (count is_passed fs) (filter_map kept_by fs))) ps
+      ap (λ (a : List Phase). cond (list_any is_aborted_phase a) [] (drop (count is_passed fs) (filter_map kept_by fs))) ps
       ∙ (ap (λ n. cond (was_aborted es) [] (drop n (filter_map kept_by fs))) (count_add is_passed es e refl)
       ∙ (ap (λ (z : List Slip). cond (was_aborted es) [] (drop (count is_passed es + 1) z)) (filter_map_skip kept_by es e refl)
       ∙ (pass_step (was_aborted es) (count is_passed es) (filter_map kept_by es) some).1)) in
       let fewer : length (kept_slips fs) ≤ length (kept_slips es) = let a = ap length slips in let b = length-drop 1 (kept_slips es) in omega arith in
       let limit = k.limit in let f = flights_from fs ts ls in
-      intake_from fs s.held ts ls (popped_from s.room es fs s.held s.taker ts (ap (λ (a : List Phase). list_any is_aborted a) ps) k.popped)
+      intake_from fs s.held ts ls (popped_from s.room es fs s.held s.taker ts (ap (λ (a : List Phase). list_any is_aborted_phase a) ps) k.popped)
       (record {
         by_client = list_all-append (is_turned_below (number s.memory_seat)) es (e ∷ []) ∙ ap (λ b. b && true) k.turned.by_client;
         course = subst (λ (z : List Phase). is_course z ≡ true) (sym ps) k.turned.course;
@@ -103,36 +84,36 @@ module _ (s : IntakeState) (k : IsIntake s) where
           over = λ c. subst (λ (z : List Landing). length z ≡ length (takings fs)) (sym ls) (subst (λ (z : List Taking). length (landings es) ≡ length z) (sym ts) (let z = shut (sym ph ∙ c) in omega arith));
         }
 
-    slips_so : kept_slips (s.entries ++ Turned hand p ∷ []) ≡ cond (was_aborted s.entries || (is_aborted p || false)) [] (drop (count is_passed s.entries) (filter_map kept_by s.entries))
+    slips_so : kept_slips (s.entries ++ Turned hand p ∷ []) ≡ cond (was_aborted s.entries || (is_aborted_phase p || false)) [] (drop (count is_passed s.entries) (filter_map kept_by s.entries))
     slips_so =
         let es = s.entries in let e = Turned hand p in let fs = es ++ e ∷ [] in
-        ap (λ (a : List Phase). cond (list_any is_aborted a) [] (drop (count is_passed fs) (filter_map kept_by fs))) (filter_map_add turn_of es e p refl)
-        ∙ (ap (λ b. cond b [] (drop (count is_passed fs) (filter_map kept_by fs))) (list_any-append is_aborted (turns es) (p ∷ []))
-        ∙ (ap (λ n. cond (was_aborted es || (is_aborted p || false)) [] (drop n (filter_map kept_by fs))) (count_skip is_passed es e refl)
-        ∙ ap (λ (z : List Slip). cond (was_aborted es || (is_aborted p || false)) [] (drop (count is_passed es) z)) (filter_map_skip kept_by es e refl)))
+        ap (λ (a : List Phase). cond (list_any is_aborted_phase a) [] (drop (count is_passed fs) (filter_map kept_by fs))) (filter_map_add turn_of es e p refl)
+        ∙ (ap (λ b. cond b [] (drop (count is_passed fs) (filter_map kept_by fs))) (list_any-append is_aborted_phase (turns es) (p ∷ []))
+        ∙ (ap (λ n. cond (was_aborted es || (is_aborted_phase p || false)) [] (drop n (filter_map kept_by fs))) (count_skip is_passed es e refl)
+        ∙ ap (λ (z : List Slip). cond (was_aborted es || (is_aborted_phase p || false)) [] (drop (count is_passed es) z)) (filter_map_skip kept_by es e refl)))
 
     -- to another phase than aborted
-    pub intake_turned : is_aborted p ≡ false → IsIntake (record s { entries = s.entries ++ Turned hand p ∷ [] })
+    pub intake_turned : is_aborted_phase p ≡ false → IsIntake (record s { entries = s.entries ++ Turned hand p ∷ [] })
     intake_turned other =
         let es = s.entries in let e = Turned hand p in let fs = es ++ e ∷ [] in
         let ts : takings fs ≡ takings es = filter_map_skip taking_of es e refl in
         let ls : landings fs ≡ landings es = filter_map_skip landing_of es e refl in
-        let ab : was_aborted fs ≡ was_aborted es = ap (λ (a : List Phase). list_any is_aborted a) (filter_map_add turn_of es e p refl) ∙ (list_any-append is_aborted (turns es) (p ∷ []) ∙ or_off (was_aborted es) (is_aborted p) other) in
-        let slips : kept_slips fs ≡ kept_slips es = slips_so ∙ ap (λ b. cond b [] (drop (count is_passed es) (filter_map kept_by es))) (or_off (was_aborted es) (is_aborted p) other) in
+        let ab : was_aborted fs ≡ was_aborted es = ap (λ (a : List Phase). list_any is_aborted_phase a) (filter_map_add turn_of es e p refl) ∙ (list_any-append is_aborted_phase (turns es) (p ∷ []) ∙ or_off (was_aborted es) (is_aborted_phase p) other) in
+        let slips : kept_slips fs ≡ kept_slips es = slips_so ∙ ap (λ b. cond b [] (drop (count is_passed es) (filter_map kept_by es))) (or_off (was_aborted es) (is_aborted_phase p) other) in
         let same = ap length slips in let f = flights_from fs ts ls in let limit = k.limit in
         intake_from fs s.held ts ls (popped_from s.room es fs s.held s.taker ts ab k.popped) turned_so (omega arith)
 
     -- nothing is kept after an abort
-    pub none_kept : is_aborted p ≡ true → kept_slips (s.entries ++ Turned hand p ∷ []) ≡ []
-    none_kept aborts = slips_so ∙ ap (λ b. cond b [] (drop (count is_passed s.entries) (filter_map kept_by s.entries))) (or_on (was_aborted s.entries) (is_aborted p) aborts)
+    pub none_kept : is_aborted_phase p ≡ true → kept_slips (s.entries ++ Turned hand p ∷ []) ≡ []
+    none_kept aborts = slips_so ∙ ap (λ b. cond b [] (drop (count is_passed s.entries) (filter_map kept_by s.entries))) (or_on (was_aborted s.entries) (is_aborted_phase p) aborts)
 
     -- to aborted: what was held is dropped
-    pub intake_aborted : is_aborted p ≡ true → IsIntake (record s { entries = s.entries ++ Turned hand p ∷ []; held = None })
+    pub intake_aborted : is_aborted_phase p ≡ true → IsIntake (record s { entries = s.entries ++ Turned hand p ∷ []; held = None })
     intake_aborted aborts =
         let es = s.entries in let e = Turned hand p in let fs = es ++ e ∷ [] in
         let ts : takings fs ≡ takings es = filter_map_skip taking_of es e refl in
         let ls : landings fs ≡ landings es = filter_map_skip landing_of es e refl in
-        let ab : was_aborted fs ≡ true = ap (λ (a : List Phase). list_any is_aborted a) (filter_map_add turn_of es e p refl) ∙ (list_any-append is_aborted (turns es) (p ∷ []) ∙ or_on (was_aborted es) (is_aborted p) aborts) in
+        let ab : was_aborted fs ≡ true = ap (λ (a : List Phase). list_any is_aborted_phase a) (filter_map_add turn_of es e p refl) ∙ (list_any-append is_aborted_phase (turns es) (p ∷ []) ∙ or_on (was_aborted es) (is_aborted_phase p) aborts) in
         let same = ap length (none_kept aborts) in let f = flights_from fs ts ls in let limit = k.limit in
         let q = k.popped in
         intake_from fs None ts ls

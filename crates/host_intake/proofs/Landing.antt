@@ -1,5 +1,5 @@
 -- What is true of an intake stays true once a record ended.
-use Rattle.std.proofs.Common.{◌≡◌, ◌≢◌, ◌⊎◌, inl, inr, ℕ, zero, suc, ◌+◌, ◌<◌, ◌==◌, Bool, true, false, not, ◌&&◌, ◌||◌, nat_lt, cond, List, [], ◌∷◌, ◌++◌, length, filter, map, reverse, Option, Some, None, MatchOption, refl, sym, ap, subst, ◌∙◌, arith, length-append}
+use Rattle.std.proofs.Common.{◌≡◌, ◌≢◌, ◌⊎◌, inl, inr, ℕ, zero, suc, ◌+◌, ◌<◌, ◌==◌, Bool, true, false, not, ◌&&◌, nat_lt, cond, List, [], ◌∷◌, ◌++◌, length, filter, map, reverse, Option, Some, None, MatchOption, refl, sym, ap, subst, ◌∙◌, arith, length-append}
 use Rattle.std.specs.Prelude.{slice_get, unwrap_or}
 use Rattle.std.specs.List.{list_any}
 use Rattle.std.proofs.lemmas.Bool.{ltb-true, ne_eqb, eqb-false}
@@ -7,20 +7,14 @@ use Rattle.std.proofs.lemmas.Bool.Decides.{eqb_tells}
 use Rattle.std.proofs.lemmas.List.{map-append, reverse-append}
 use Rattle.std.proofs.lemmas.List.Folds.{list_all-append}
 use Rattle.atomic_table.specs.Seated.{TableId}
-use Rattle.host_model.specs.Lists.{below, count}
-use Rattle.host_group.specs.declared.seat.CellSeat.{CellSeat}
-use Rattle.host_group.specs.declared.view.Row.{Row}
-use Rattle.host_group.specs.Seats.{IsAdmittingOf, seat_cells, admitted, back, next}
+use Rattle.host_model.specs.{below, count}
+use Rattle.host_group.specs.{CellSeat, Row, IsAdmittingOf, seat_cells, admitted, back, next}
 use Rattle.host_memory.proofs.Pushed.{filter_skip, filter_add}
-use Rattle.host_intake.specs.declared.waiting.Waiting.{Waiting}
-use Rattle.host_intake.specs.Entries.{Taking, Landing, requests_of}
-use Rattle.host_intake.specs.Members.{AreLanded, AreInCells, IsAnswered, backs, is_by_taker, is_lander, is_member_at, is_of_member, is_right_out, landing_ending, member_at, row_ending, Ending}
-use Rattle.host_intake.specs.Told.{is_open, is_out}
-use Rattle.host_intake.specs.Waits.{AreWaiting, IsWaiting, is_waiting_at}
+use Rattle.host_intake.specs.{Waiting, Taking, Landing, requests_of, AreLanded, AreInCells, IsAnswered, backs, is_by_taker, is_lander, is_member_at, is_of_member, is_right_out, landing_ending, member_at, row_ending, Ending, is_open, is_out, AreWaiting, IsRecordWaiting, is_waiting_at}
 use Rattle.host_intake.proofs.Counting.{but_for, count_cut, count_agree}
-use Rattle.host_intake.proofs.Ledgering.{and_left, and_right}
 use Rattle.host_intake.proofs.Pushing.{open_landed}
 use Rattle.host_intake.proofs.Removing.{get_snoc}
+use Rattle.host_log.proofs.Bools.{or_left, or_right, and_end, and_left, and_right}
 
 pub match_map : {A : Type 0} (P Q : A → Type 0) (o : Option A) → ((x : A) → P x → Q x) → MatchOption o ⊥ P → MatchOption o ⊥ Q
 match_map P Q None f m = m
@@ -57,18 +51,10 @@ module _ (ts : List Taking) (ls : List Landing) (m : Landing) (flying : is_out m
   -- a close that waits is of another record
   pub waiting_more : (cells : TableId) (ws : List Waiting) → list_any (is_waiting_at m.index) ws ≡ false → AreWaiting cells ts ls ws → AreWaiting cells ts (ls ++ m ∷ []) ws
   waiting_more cells ws none k = record {
-    each = λ n w e. match_map (λ t. IsWaiting cells ts ls w t) (λ t. IsWaiting cells ts (ls ++ m ∷ []) w t) (slice_get ts w.envelope.index) (λ t x. still w (apart ws none n w e) t x) (k.each n w e);
+    each = λ n w e. match_map (λ t. IsRecordWaiting cells ts ls w t) (λ t. IsRecordWaiting cells ts (ls ++ m ∷ []) w t) (slice_get ts w.envelope.index) (λ t x. still w (apart ws none n w e) t x) (k.each n w e);
     apart = k.apart;
   }
     where
-      or_left : (a b : Bool) → (a || b) ≡ false → a ≡ false
-      or_left true b e = e
-      or_left false b e = refl
-
-      or_right : (a b : Bool) → (a || b) ≡ false → b ≡ false
-      or_right true b e = absurd (cc)
-      or_right false b e = e
-
       apart : (ws : List Waiting) → list_any (is_waiting_at m.index) ws ≡ false → (n : ℕ) (w : Waiting) → slice_get ws n ≡ Some w → is_waiting_at m.index w ≡ false
       apart [] none n w e = absurd (none_get n e)
         where
@@ -81,7 +67,7 @@ module _ (ts : List Taking) (ls : List Landing) (m : Landing) (flying : is_out m
       flip : (a b : ℕ) → (a == b) ≡ false → (b == a) ≡ false
       flip a b e = ne_eqb b a (λ z. absurd (eqb-false a b e (sym z)))
 
-      still : (w : Waiting) → is_waiting_at m.index w ≡ false → (t : Taking) → IsWaiting cells ts ls w t → IsWaiting cells ts (ls ++ m ∷ []) w t
+      still : (w : Waiting) → is_waiting_at m.index w ≡ false → (t : Taking) → IsRecordWaiting cells ts ls w t → IsRecordWaiting cells ts (ls ++ m ∷ []) w t
       still w other t x =
           let was = x.flying in let i = w.envelope.index in
           record {
@@ -98,16 +84,11 @@ module _ (ts : List Taking) (ls : List Landing) (m : Landing) (flying : is_out m
     lone_same : is_member_at (requests_of ts) m.index ≡ false → (p : ℕ → Bool) (j : ℕ) → (p j && is_right_out (requests_of ts) (ls ++ m ∷ []) j) ≡ (p j && is_right_out (requests_of ts) ls j)
     lone_same lone p j = ap (λ b. p j && (is_member_at (requests_of ts) j && b)) (open_landed ls m j) ∙ ap (λ b. p j && b) (step j (eqb_tells m.index j))
       where
-        drop_true : (a b : Bool) → (a && (b && true)) ≡ (a && b)
-        drop_true true true = refl
-        drop_true true false = refl
-        drop_true false b = refl
-
         step : (j : ℕ) → (((m.index == j) ≡ true) × (m.index ≡ j)) ⊎ (((m.index == j) ≡ false) × (m.index ≢ j))
             → (is_member_at (requests_of ts) j && (is_open ls j && not (m.index == j))) ≡ (is_member_at (requests_of ts) j && is_open ls j)
         step j (inl s) = let here : is_member_at (requests_of ts) j ≡ false = subst (λ (z : ℕ). is_member_at (requests_of ts) z ≡ false) s.1 lone in
             ap (λ b. b && (is_open ls j && not (m.index == j))) here ∙ ap (λ b. b && is_open ls j) (sym here)
-        step j (inr s) = ap (λ b. is_member_at (requests_of ts) j && (is_open ls j && not b)) s.0 ∙ drop_true (is_member_at (requests_of ts) j) (is_open ls j)
+        step j (inr s) = ap (λ b. is_member_at (requests_of ts) j && (is_open ls j && not b)) s.0 ∙ and_end (is_member_at (requests_of ts) j) (is_open ls j)
 
     -- a lone record ended
     pub cells_lone : is_member_at (requests_of ts) m.index ≡ false → AreInCells ts (ls ++ m ∷ []) q

@@ -7,10 +7,7 @@ use Rattle.std.proofs.lemmas.Bool.Decides.{eqb_tells}
 use Rattle.std.proofs.lemmas.List.Sums.{fails_before_first}
 use Rattle.std.proofs.lemmas.List.Quantifiers.{position-Some}
 use Rattle.std.proofs.lemmas.Option.{slice_get_read}
-use Rattle.host_intake.specs.declared.waiting.Waiting.{Waiting}
-use Rattle.host_intake.specs.Intaken.{IsIntake}
-use Rattle.host_intake.specs.State.{IntakeState}
-use Rattle.host_intake.specs.Waits.{HasLeft, is_waiting_at}
+use Rattle.host_intake.specs.{Waiting, IsIntake, IntakeState, HasLeft, is_waiting_at}
 use Rattle.host_intake.proofs.Removing.{left_stood, count_remove, none_left, past_any}
 
 -- where no element is found, none passes

@@ -4,36 +4,21 @@ use Rattle.std.specs.List.{list_any, list_all}
 use Rattle.std.specs.Option.{option_map_or}
 use Rattle.std.proofs.lemmas.Bool.{ltb-true, lt-ltb, ne_eqb}
 use Rattle.std.proofs.lemmas.List.{map-append}
-use Rattle.host_block.specs.Room.{WithRoom}
+use Rattle.host_block.specs.{WithRoom}
 use Rattle.host_record.specs.declared.status.Status.TheVariants as status
-use Rattle.host_group.specs.Ends.{greatest}
-use Rattle.host_model.specs.declared.row.TakenRow.{TakenRow}
+use Rattle.host_group.specs.{greatest}
 use Rattle.host_model.specs.declared.verdict.Verdict.{Verdict}
-use Rattle.host_model.specs.Lists.{all_with_before, below, count, last}
+use Rattle.host_model.specs.{all_with_before, below, count, last}
 use Rattle.host_model.proofs.Growth.{all_with_before-push}
 use Rattle.host_model.proofs.ListTests.{and-from}
-use Rattle.host_rings.specs.declared.envelope.Envelope.{Envelope}
-use Rattle.host_rings.specs.declared.slip.Slip.{Slip}
+use Rattle.host_rings.specs.{Envelope, Slip}
 use Rattle.host_memory.proofs.Pushed.{filter_map_skip, filter_map_add, count_skip}
-use Rattle.host_intake.specs.declared.entry.IntakeEntry.{IntakeEntry}
-use Rattle.host_intake.specs.declared.entry.IntakeEntry.TheVariants.{Took}
-use Rattle.host_intake.specs.declared.entry.Phase.{Phase}
-use Rattle.host_intake.specs.declared.entry.Phase.TheVariants.{Running, Draining, Aborted, Closed}
-use Rattle.host_intake.specs.Entries.{Taking, Landing, taking_of, landing_of, takings, landings, is_landing_of, place_of}
-use Rattle.host_intake.specs.Ledgers.{IsLedger, is_before, is_course, is_last_turn, is_shut, is_taken_open}
-use Rattle.host_intake.specs.Told.{is_open, flights_in, turn_of, turns, kept_by, is_passed, kept_slips, phase_in, was_aborted, is_aborted, seen_of, row_in, rows_in, is_ending}
+use Rattle.host_intake.specs.{IntakeEntry, Took, Phase, Running, Draining, Aborted, Closed, Taking, Landing, taking_of, landing_of, takings, landings, is_landing_of, place_of, IsLedger, is_before, is_course, is_last_turn, is_shut, is_taken_open, is_open, flights_in, turn_of, turns, kept_by, is_passed, kept_slips, phase_in, was_aborted, is_aborted_phase, seen_of, row_in, rows_in, is_ending}
 use Rattle.host_intake.proofs.Counting.{count_more, below_more}
 use Rattle.host_intake.proofs.Pushing.{parts_of, kept_few}
+use Rattle.host_log.proofs.Bools.{and_left, and_right}
 
 -- ---- words
-
-pub and_left : (a b : Bool) → (a && b) ≡ true → a ≡ true
-and_left true b e = refl
-and_left false b e = e
-
-pub and_right : (a b : Bool) → (a && b) ≡ true → b ≡ true
-and_right true b e = e
-and_right false b e = absurd (cc)
 
 before_is : (n : ℕ) (l : Landing) → is_before n l ≡ true → (l.index == n) ≡ false
 before_is n l e = let h = ltb-true l.index n e in ne_eqb l.index n (λ z. absurd (omega arith))
@@ -82,7 +67,7 @@ unclosed Closed h = absurd (h refl)
 -- what is kept depends on these three alone
 pub kept_from : (es fs : List IntakeEntry) → turns fs ≡ turns es → count is_passed fs ≡ count is_passed es → filter_map kept_by fs ≡ filter_map kept_by es → kept_slips fs ≡ kept_slips es
 kept_from es fs t p k =
-    ap (λ a. cond (list_any is_aborted a) [] (drop (count is_passed fs) (filter_map kept_by fs))) t
+    ap (λ a. cond (list_any is_aborted_phase a) [] (drop (count is_passed fs) (filter_map kept_by fs))) t
     ∙ (ap (λ n. cond (was_aborted es) [] (drop n (filter_map kept_by fs))) p ∙ ap (λ l. cond (was_aborted es) [] (drop (count is_passed es) l)) k)
 
 pub phase_from : (es fs : List IntakeEntry) → turns fs ≡ turns es → phase_in fs ≡ phase_in es

@@ -6,17 +6,12 @@ use Rattle.std.proofs.Math.ListN.{get_or-append}
 use Rattle.std.proofs.lemmas.List.{length-map, take-append-le}
 use Rattle.std.proofs.lemmas.List.Elements.{filter-append, filter_map-append}
 use Rattle.host_record.specs.declared.request.Request.{Request}
-use Rattle.host_record.specs.Command.{is_last}
-use Rattle.host_record.specs.Request.{request_of}
-use Rattle.host_model.specs.Groups.{closings, is_closing, is_member}
-use Rattle.host_model.specs.Lists.{below, count}
-use Rattle.host_model.specs.Log.{request_at}
-use Rattle.host_group.specs.declared.view.Member.{Member}
-use Rattle.host_group.specs.Seats.{member}
-use Rattle.host_group.specs.Views.{bit, total}
+use Rattle.host_record.specs.{is_last, request_of}
+use Rattle.host_model.specs.{closings, is_closing, is_member, below, count, request_at}
+use Rattle.host_group.specs.{Member, member, bit}
+use Rattle.host_log.specs.{total}
 use Rattle.host_group.specs.Views as cell
-use Rattle.host_intake.specs.Entries.{Taking, request_in, requests_of}
-use Rattle.host_intake.specs.Members.{is_member_at, member_at, members}
+use Rattle.host_intake.specs.{Taking, request_in, requests_of, is_member_at, member_at, members}
 use Rattle.host_intake.proofs.Counting.{below_more}
 
 -- ---- one record
@@ -100,7 +95,7 @@ total_append : (f : Member → ℕ) (xs ys : List Member) → total f (xs ++ ys)
 total_append f [] ys = omega arith
 total_append f (x ∷ xs) ys = let h = total_append f xs ys in omega arith
 
-closes_step : (g : ℕ) (r : Request) (m : Member) (mem same lst : Bool) → (m.number == g) ≡ same → m.last ≡ lst → total (cell.closes g) (cons_option (cond mem (Some m) None) []) ≡ length (cond ((mem && lst) && same) (r ∷ []) [])
+closes_step : (g : ℕ) (r : Request) (m : Member) (mem same lst : Bool) → (m.number == g) ≡ same → m.last ≡ lst → total (cell.closes_of_group g) (cons_option (cond mem (Some m) None) []) ≡ length (cond ((mem && lst) && same) (r ∷ []) [])
 closes_step g r m false same lst e f = refl
 closes_step g r m true same lst e f = ap (λ b. cond b (bit m.last) 0 + 0) e ∙ (ap (λ b. cond same (bit b) 0 + 0) f ∙ last_step same lst)
   where
@@ -113,14 +108,14 @@ closes_step g r m true same lst e f = ap (λ b. cond b (bit m.last) 0 + 0) e ∙
 suc_is : (n : ℕ) → suc n ≡ n + 1
 suc_is n = omega arith
 
-closings_upto : (g : ℕ) (rs : List Request) (n : ℕ) → n ≤ length rs → cell.closings g (filter_map (member_at rs) (below n)) ≡ closings g (take n rs)
+closings_upto : (g : ℕ) (rs : List Request) (n : ℕ) → n ≤ length rs → cell.members_closing g (filter_map (member_at rs) (below n)) ≡ closings g (take n rs)
 closings_upto g rs zero h = refl
 closings_upto g rs (suc n) h =
     let r = request_at rs n in let m = member r.group (closings r.group (take n rs)) n r.reqid (is_last r) in
     let p : Request → Bool = λ (q : Request). is_closing q && q.group == g in
     let more : filter_map (member_at rs) (below (suc n)) ≡ filter_map (member_at rs) (below n) ++ cons_option (member_at rs n) [] =
     ap (λ k. filter_map (member_at rs) (below k)) (suc_is n) ∙ (ap (λ l. filter_map (member_at rs) l) (below_more n) ∙ filter_map-append (member_at rs) (below n) (n ∷ [])) in
-    let a = ap (λ l. cell.closings g l) more ∙ total_append (cell.closes g) (filter_map (member_at rs) (below n)) (cons_option (member_at rs n) []) in
+    let a = ap (λ l. cell.members_closing g l) more ∙ total_append (cell.closes_of_group g) (filter_map (member_at rs) (below n)) (cons_option (member_at rs n) []) in
     let b = closings_upto g rs n (omega arith) in
     let c = closes_step g r m (is_member r) (r.group == g) (is_last r) refl refl in
     let d : closings g (take (suc n) rs) ≡ closings g (take n rs) + length (filter p (r ∷ [])) =
@@ -132,5 +127,5 @@ take_all [] = refl
 take_all (r ∷ rs) = ap (λ l. r ∷ l) (take_all rs)
 
 -- the cells count closing members as the records do
-pub closings_same : (g : ℕ) (rs : List Request) → cell.closings g (members rs) ≡ closings g rs
+pub closings_same : (g : ℕ) (rs : List Request) → cell.members_closing g (members rs) ≡ closings g rs
 closings_same g rs = closings_upto g rs (length rs) (omega arith) ∙ ap (λ l. closings g l) (take_all rs)

@@ -1,13 +1,9 @@
 -- The answer about the record that was held, as the answer to the whole call.
 use Rattle.std.proofs.Common.{◌≡◌, ℕ, Option, Some, None, MatchOption, refl, sym, ap, subst, ◌∙◌}
 use Rattle.std.specs.Prelude.{unwrap_or}
-use Rattle.host_rings.specs.declared.envelope.Envelope.{Envelope}
-use Rattle.host_rings.specs.RequestEnds.{TakerState}
-use Rattle.host_intake.specs.declared.admission.Admission.{Admission}
+use Rattle.host_rings.specs.{Envelope, TakerState}
+use Rattle.host_intake.specs.{Admission, HasTaken, IsAdmission, IsOpen, IsTakenOrStalled, Taking, IntakeState, MemorySeat}
 use Rattle.host_intake.specs.declared.admission.Admission.TheVariants as answer
-use Rattle.host_intake.specs.Admissions.{HasTaken, IsAdmission, IsOpen, IsTakenOrStalled}
-use Rattle.host_intake.specs.Entries.{Taking}
-use Rattle.host_intake.specs.State.{IntakeState, MemorySeat}
 
 module _ (hand : ℕ) (s : IntakeState) (h : Option Envelope) (taker : TakerState) (new : IntakeState) (seat : MemorySeat) (e : Envelope) (goes : IsOpen s) (first : unwrap_or s.held e ≡ e) where
   abbrev holding : IntakeState

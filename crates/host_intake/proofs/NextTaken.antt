@@ -2,22 +2,14 @@
 use Rattle.std.proofs.Common.{◌≡◌, ℕ, ◌+◌, ◌≤◌, ◌==◌, not, ◌&&◌, List, [], ◌∷◌, ◌++◌, length, take, Option, Some, None, MatchOption, refl, sym, ap, subst, ◌∙◌, arith}
 use Rattle.std.specs.Option.{is_some}
 use Rattle.host_block.specs.declared.range.Range.{Range}
-use Rattle.host_frames.specs.Seats.{SeenPages}
+use Rattle.host_frames.specs.{SeenPages}
 use Rattle.host_record.specs.declared.request.Request.{Request}
-use Rattle.host_record.specs.Command.{opcode, is_close}
-use Rattle.host_model.specs.declared.memory.MemEntry.{MemEntry}
-use Rattle.host_model.specs.Verdict.{judged, is_accepted}
-use Rattle.host_memory.specs.declared.limits.MemoryPlan.{MemoryPlan}
-use Rattle.host_memory.specs.Held.{standing_in, page_count_of}
-use Rattle.host_memory.specs.PagesHeld.{ArePagesOf}
-use Rattle.host_memory.specs.Pins.{pins_on}
-use Rattle.host_memory.specs.State.{events}
-use Rattle.host_turn.specs.History.{Continues}
-use Rattle.host_turn.specs.Seats.{number, seen_by, fixed_part}
-use Rattle.host_intake.specs.Admissions.{ArePagesClosed, HasPages}
-use Rattle.host_intake.specs.Entries.{Taking, place_of, request_in}
-use Rattle.host_intake.specs.State.{IsForAdmissions, MemorySeat}
-use Rattle.host_intake.specs.Takings.{AreTaken, judged_on, left_by, made_for, made_under, under}
+use Rattle.host_record.specs.{opcode, is_close}
+use Rattle.host_model.specs.{MemEntry, judged, is_accepted}
+use Rattle.host_memory.specs.{MemoryPlan, standing_in, page_count_of, ArePagesOf, pins_on, events}
+use Rattle.host_log.specs.{Continues}
+use Rattle.host_turn.specs.{number, seen_by, fixed_part}
+use Rattle.host_intake.specs.{ArePagesClosed, GivesSeenPages, Taking, place_of, request_in, IsForAdmissions, MemorySeat, AreTaken, judged_on, left_by, made_for, made_under, under}
 use Rattle.host_intake.proofs.Judging.{hand_of, taken_longer, taken_one}
 
 -- what is known of the admissions' seat once its memory is known
@@ -52,7 +44,7 @@ take_begin xs ys zs e = ap (λ l. take (length xs) l) e ∙ front xs zs
 pub pages_next : (seat : MemorySeat) (plan : MemoryPlan) (seen left : List MemEntry) (t : Taking) (r : Request) (pages : Option SeenPages) → r ≡ request_in t → fixed_part seat ≡ Some plan → t.seen ≡ length seen → seen_by seat ≡ seen ++ left
     → is_some pages ≡ (is_accepted t.verdict && is_close (opcode r) && not t.waits)
     → MatchOption pages (Unit {0}) (λ p. ArePagesOf plan.pool plan.limits.size (events seen) r.vmoid (page_count_of r.vmoid (events seen)) p)
-    → HasPages seat t pages
+    → GivesSeenPages seat t pages
 pages_next seat plan seen left t r pages named fixed at is some closed =
     (subst (λ (q : Request). is_some pages ≡ (is_accepted t.verdict && is_close (opcode q) && not t.waits)) named some, of_pages pages closed)
   where

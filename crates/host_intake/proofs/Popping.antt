@@ -2,19 +2,12 @@
 use Rattle.std.proofs.Common.{◌≡◌, ℕ, ◌+◌, ◌<◌, true, false, List, [], ◌∷◌, ◌++◌, length, Option, Some, None, MatchOption, refl, sym, ap, subst, ◌∙◌, arith, length-append}
 use Rattle.std.proofs.lemmas.List.{length-take, length-drop, length-map, take-append-le, drop-append-le}
 use Rattle.std.specs.Option.{is_some}
-use Rattle.host_rings.specs.declared.envelope.Envelope.{Envelope}
-use Rattle.host_rings.specs.RequestEnds.{TakerState, with_taken, FoundEmpty}
-use Rattle.host_intake.specs.declared.entry.IntakeEntry.{IntakeEntry}
-use Rattle.host_intake.specs.declared.entry.Phase.{Phase}
-use Rattle.host_intake.specs.declared.entry.Phase.TheVariants.{Running, Draining, Aborted, Closed}
-use Rattle.host_intake.specs.Entries.{takings, envelope_of}
-use Rattle.host_intake.specs.Intaken.{IsIntake, ArePopped, listed}
-use Rattle.host_intake.specs.Ledgers.{is_course}
-use Rattle.host_intake.specs.State.{IntakeState}
-use Rattle.host_intake.specs.Told.{turns, phase_in, was_aborted, is_aborted, is_over}
+use Rattle.host_rings.specs.{Envelope, TakerState, with_heard, with_taken, FoundEmpty}
+use Rattle.host_intake.specs.{IntakeEntry, Phase, Running, Draining, Aborted, Closed, takings, envelope_of, IsIntake, ArePopped, is_course, IntakeState, turns, phase_in, was_aborted, is_aborted_phase, is_over}
+use Rattle.host_memory.specs.{listed}
 use Rattle.host_intake.proofs.Ending.{aborted_is}
 
-over_parts : (p : Phase) → is_over p ≡ false → (is_aborted p ≡ false) × (p ≡ Closed → ⊥)
+over_parts : (p : Phase) → is_over p ≡ false → (is_aborted_phase p ≡ false) × (p ≡ Closed → ⊥)
 over_parts Running e = (refl, λ c. absurd (cc))
 over_parts Draining e = (refl, λ c. absurd (cc))
 over_parts Aborted e = absurd (cc)
@@ -71,6 +64,28 @@ intake_held s k none goes held taker m = record {
     popped None taker m = subst (λ (z : TakerState). ArePopped s.room s.entries None z) (sym m.0) empty
     popped (Some e) taker m = subst (λ (z : TakerState). ArePopped s.room s.entries (Some e) z) (sym m.2)
         (popped_next s.room s.entries s.taker empty (not_aborted s.entries k.turned.course goes) e m.0 m.1)
+
+-- the taker heard that these were pushed
+pub intake_heard : (s : IntakeState) → IsIntake s → (pushed : List Envelope) → IsIntake (record s { taker = with_heard s.taker pushed })
+intake_heard s k pushed = record {
+  popped = record {
+    taken = k.popped.taken;
+    left = k.popped.left;
+    dropped = k.popped.dropped;
+    next = k.popped.next;
+    one = k.popped.one;
+    records = k.popped.records;
+    in_room = k.popped.in_room;
+    fits = k.popped.fits;
+  };
+  resting = k.resting;
+  taken = k.taken;
+  landed = k.landed;
+  cells = k.cells;
+  waiting = k.waiting;
+  turned = k.turned;
+  limit = k.limit;
+}
 
 -- nothing is held
 pub none_of : (o : Option Envelope) → is_some o ≡ false → o ≡ None

@@ -1,14 +1,12 @@
 -- What a history tells once an entry was added.
-use Rattle.std.proofs.Common.{◌≡◌, ℕ, suc, ◌+◌, ◌≤◌, ◌==◌, Bool, true, false, not, ◌&&◌, ◌||◌, List, [], ◌∷◌, ◌++◌, length, filter_map, Option, Some, None, refl, ap, ◌∙◌, arith}
+use Rattle.std.proofs.Common.{◌≡◌, ℕ, suc, ◌+◌, ◌≤◌, ◌==◌, true, false, not, List, [], ◌∷◌, ◌++◌, length, filter_map, Option, Some, None, refl, ap, ◌∙◌, arith}
 use Rattle.std.specs.List.{list_any, cons_option}
 use Rattle.std.proofs.lemmas.List.Folds.{list_any-append}
-use Rattle.host_model.specs.Lists.{count}
-use Rattle.host_rings.specs.declared.slip.Slip.{Slip}
-use Rattle.host_intake.specs.declared.entry.IntakeEntry.{IntakeEntry}
-use Rattle.host_intake.specs.declared.entry.IntakeEntry.TheVariants.{Took, Landed, Passed, Turned}
-use Rattle.host_intake.specs.Entries.{Landing, takings, landings, is_landing_of}
-use Rattle.host_intake.specs.Told.{is_open, turns, kept_by, is_passed}
+use Rattle.host_model.specs.{count}
+use Rattle.host_rings.specs.{Slip}
+use Rattle.host_intake.specs.{IntakeEntry, Took, Landed, Passed, Turned, Landing, takings, landings, is_landing_of, is_open, turns, kept_by, is_passed}
 use Rattle.host_intake.proofs.Counting.{but_for}
+use Rattle.host_log.proofs.Bools.{not_or}
 
 -- ---- how many entries there are
 
@@ -35,11 +33,6 @@ kept_few (Turned hand phase ∷ es) = kept_few es
 
 -- ---- the records that ended
 
-any_one : (b c : Bool) → not (b || (c || false)) ≡ (not b && not c)
-any_one true c = refl
-any_one false true = refl
-any_one false false = refl
-
 -- a record that ended isn't open any more
 pub open_landed : (ls : List Landing) (l : Landing) (i : ℕ) → is_open (ls ++ l ∷ []) i ≡ but_for l.index (is_open ls) i
-open_landed ls l i = ap not (list_any-append (is_landing_of i) ls (l ∷ [])) ∙ any_one (list_any (is_landing_of i) ls) (l.index == i)
+open_landed ls l i = ap not (list_any-append (is_landing_of i) ls (l ∷ [])) ∙ not_or (list_any (is_landing_of i) ls) (l.index == i)

@@ -10,27 +10,15 @@ use Rattle.std.proofs.lemmas.List.{map-append}
 use Rattle.std.proofs.lemmas.List.Elements.{filter-append}
 use Rattle.std.proofs.lemmas.Option.{slice_get_within}
 use Rattle.host_block.specs.declared.range.Range.{Range}
-use Rattle.host_model.specs.declared.memory.MemEntry.{MemEntry}
-use Rattle.host_model.specs.declared.memory.MemEvent.{MemEvent}
-use Rattle.host_model.specs.declared.memory.MemEvent.TheVariants.{Attach, Fill, Show, Pin, Lift, Land, Done, Release}
+use Rattle.host_model.specs.{MemEntry, MemEvent, Attach, Fill, Show, Pin, Lift, Land, Done, Release, Accepted, Refused, count, is_pin}
 use Rattle.host_model.specs.declared.memory.MemEvent.TheVariants as mem
 use Rattle.host_model.specs.declared.verdict.Verdict.{Verdict}
-use Rattle.host_model.specs.declared.verdict.Verdict.TheVariants.{Accepted, Refused}
-use Rattle.host_model.specs.Lists.{count}
-use Rattle.host_model.specs.Releases.{is_pin}
-use Rattle.host_record.specs.declared.opcode.Opcode.{Opcode}
-use Rattle.host_record.specs.declared.opcode.Opcode.TheVariants.{Read, Write, Flush, Trim, Close}
-use Rattle.host_record.specs.Command.{opcode}
-use Rattle.host_memory.specs.Held.{closer_by, closer_of, is_before_close, is_released, pages_for, standing_in, attachment_of}
-use Rattle.host_memory.specs.Numbers.{is_numbered}
-use Rattle.host_memory.specs.Pins.{is_pin_for}
-use Rattle.host_memory.specs.State.{events}
-use Rattle.host_turn.specs.History.{entries_of}
-use Rattle.host_intake.specs.Entries.{Taking, place_of, request_in}
-use Rattle.host_intake.specs.Takings.{AreTaken, IsPastJudging, left_by, made, made_for, made_under, under}
-use Rattle.host_intake.specs.Touching.{IsReady}
+use Rattle.host_record.specs.{Opcode, Read, Write, Flush, Trim, Close, opcode}
+use Rattle.host_memory.specs.{closer_by, closer_of, is_before_close, is_released, pages_for, standing_in, attachment_of, is_numbered, is_pin_for, events}
+use Rattle.host_log.specs.{entries_of}
+use Rattle.host_intake.specs.{Taking, place_of, request_in, AreTaken, IsPastJudging, left_by, made, made_for, made_under, under, IsPinReady}
 use Rattle.host_intake.proofs.Judging.{hand_of}
-use Rattle.host_intake.proofs.Ledgering.{and_left, and_right}
+use Rattle.host_log.proofs.Bools.{and_left, and_right}
 
 -- ---- elements and tests
 
@@ -159,7 +147,7 @@ module _ (part : Range) (client number : ℕ) (whole : List MemEntry) (ts : List
       let b : count is_pin (events (left_by number u)) ≡ count is_pin (made u) = ap (λ l. count is_pin l) (events_under (made u)) in
       let one = one_made u.verdict (opcode (request_in u)) (place_of u) (request_in u).vmoid u.hand u.waits in let r = pins_left_by us in omega arith
 
-  pub ready : (records v : ℕ) → length ts < records → is_some (standing_in v (length ts) (events whole)) ≡ true → IsReady (events whole) records (length ts) v
+  pub ready : (records v : ℕ) → length ts < records → is_some (standing_in v (length ts) (events whole)) ≡ true → IsPinReady (events whole) records (length ts) v
   ready records v few stands = record {
     room = let a = pins_owned whole numbered in let b = ap (λ (w : List MemEntry). count is_pin (events w)) k.left in let c = pins_left_by ts in omega arith;
     stands = stands;

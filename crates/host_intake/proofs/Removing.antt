@@ -2,7 +2,7 @@
 use Rattle.std.proofs.Common.{◌≡◌, ◌⊎◌, inl, inr, ℕ, zero, suc, ◌≤◌, ◌<◌, Bool, true, false, ◌||◌, cond, List, [], ◌∷◌, ◌++◌, length, filter, get_or, Option, Some, refl, ap, ◌∙◌, arith, remove}
 use Rattle.std.specs.Prelude.{slice_get, unwrap_or}
 use Rattle.std.specs.List.{list_any}
-use Rattle.host_model.specs.Lists.{count}
+use Rattle.host_model.specs.{count}
 
 module _ {A : Type 0} where
   -- an element of a list with one more

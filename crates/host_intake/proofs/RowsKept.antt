@@ -2,22 +2,14 @@
 use Rattle.std.proofs.Common.{◌≡◌, ℕ, ◌+◌, ◌<◌, Bool, true, List, [], ◌∷◌, ◌++◌, length, map, set, get_or, Option, Some, None, refl, sym, ap, subst, ◌∙◌, arith, length-append}
 use Rattle.std.specs.Prelude.{IfSome, IsSomeAnd, MatchOption, is_some}
 use Rattle.std.proofs.lemmas.List.{length-map}
-use Rattle.host_block.specs.Room.{WithRoom}
+use Rattle.host_block.specs.{WithRoom}
 use Rattle.host_memory.proofs.Pushed.{filter_map_skip, filter_map_add}
-use Rattle.host_model.specs.declared.row.TakenRow.{TakenRow}
+use Rattle.host_model.specs.{TakenRow}
 use Rattle.host_model.specs.declared.verdict.Verdict.{Verdict}
 use Rattle.host_record.specs.declared.status.Status.{Status}
 use Rattle.host_record.specs.declared.status.Status.TheVariants as status
-use Rattle.host_rings.specs.declared.envelope.Envelope.{Envelope}
-use Rattle.host_rings.specs.declared.slip.Slip.{Slip}
-use Rattle.host_intake.specs.declared.entry.IntakeEntry.{IntakeEntry}
-use Rattle.host_intake.specs.declared.entry.IntakeEntry.TheVariants.{Took, Landed, Passed, Turned}
-use Rattle.host_intake.specs.declared.entry.Phase.{Phase}
-use Rattle.host_intake.specs.declared.entry.RecordEnd.{RecordEnd}
-use Rattle.host_intake.specs.Entries.{Landing, Taking, landing_of, landings, taking_of, takings}
-use Rattle.host_intake.specs.Ledgers.{IsLedger}
-use Rattle.host_intake.specs.Rows.{AreRows, IsSettled, and_row}
-use Rattle.host_intake.specs.Told.{is_flying, row_in, rows_in}
+use Rattle.host_rings.specs.{Envelope, Slip}
+use Rattle.host_intake.specs.{IntakeEntry, Took, Landed, Passed, Turned, Phase, RecordEnd, Landing, Taking, landing_of, landings, taking_of, takings, IsLedger, AreRows, IsRowSettled, and_row, is_flying, row_in, rows_in}
 use Rattle.host_intake.proofs.Ending.{rows_landed}
 use Rattle.host_intake.proofs.Ledgering.{rows_took}
 
@@ -84,7 +76,7 @@ module _ (room : ℕ) (l : WithRoom IntakeEntry) (phase : Phase) (flights : ℕ)
 
   module _ (i : ℕ) (flying : is_flying i l.items ≡ true) where
     pub rows_settled : (hand : ℕ) (end : RecordEnd) (answer : Option Slip) (flag : Bool) (taken : ℕ) (old new : Option (WithRoom TakenRow)) → AreRows room l.items taken old
-        → MatchOption old (new ≡ None) (λ r. IsSomeAnd new (λ settled. IsSettled i end.outcome r settled))
+        → MatchOption old (new ≡ None) (λ r. IsSomeAnd new (λ settled. IsRowSettled i end.outcome r settled))
         → AreRows room (l.items ++ Landed hand i end answer flag ∷ []) taken new
     rows_settled hand end answer flag taken old new a settled = record {
       count = a.count ∙ sym (ap length (filter_map_skip taking_of l.items x refl));
@@ -94,7 +86,7 @@ module _ (room : ℕ) (l : WithRoom IntakeEntry) (phase : Phase) (flights : ℕ)
         x : IntakeEntry
         x = Landed hand i end answer flag
 
-        at : (o n : Option (WithRoom TakenRow)) → IfSome o (λ r. (r.items ≡ rows_in l.items) × (r.room ≡ room)) → MatchOption o (n ≡ None) (λ r. IsSomeAnd n (λ s. IsSettled i end.outcome r s))
+        at : (o n : Option (WithRoom TakenRow)) → IfSome o (λ r. (r.items ≡ rows_in l.items) × (r.room ≡ room)) → MatchOption o (n ≡ None) (λ r. IsSomeAnd n (λ s. IsRowSettled i end.outcome r s))
             → IfSome n (λ r. (r.items ≡ rows_in (l.items ++ x ∷ [])) × (r.room ≡ room))
         at None n h p = subst (λ (z : Option (WithRoom TakenRow)). IfSome z (λ r. (r.items ≡ rows_in (l.items ++ x ∷ [])) × (r.room ≡ room))) (sym p) _
         at (Some r) None h p = absurd p
@@ -106,7 +98,7 @@ module _ (room : ℕ) (l : WithRoom IntakeEntry) (phase : Phase) (flights : ℕ)
             )
 
 -- whether rows are kept stays
-pub settled_still : (i : ℕ) (o : Status) (old new : Option (WithRoom TakenRow)) → MatchOption old (new ≡ None) (λ r. IsSomeAnd new (λ s. IsSettled i o r s)) → is_some new ≡ is_some old
+pub settled_still : (i : ℕ) (o : Status) (old new : Option (WithRoom TakenRow)) → MatchOption old (new ≡ None) (λ r. IsSomeAnd new (λ s. IsRowSettled i o r s)) → is_some new ≡ is_some old
 settled_still i o None new p = ap is_some p
 settled_still i o (Some r) None p = absurd p
 settled_still i o (Some r) (Some s) p = refl

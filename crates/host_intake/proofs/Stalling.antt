@@ -6,22 +6,14 @@ use Rattle.std.specs.Option.{option_map_or}
 use Rattle.std.proofs.lemmas.Bool.{lt-ltb, eqb-true}
 use Rattle.std.proofs.lemmas.List.{length-map}
 use Rattle.host_record.specs.declared.request.Request.{Request}
-use Rattle.host_record.specs.Command.{is_last}
-use Rattle.host_model.specs.Groups.{closings, instance_of, is_member}
-use Rattle.host_model.specs.Lists.{below, count}
-use Rattle.host_model.specs.Log.{request_at}
-use Rattle.host_group.specs.declared.seat.CellSeat.{CellSeat}
-use Rattle.host_group.specs.declared.view.Member.{Member}
-use Rattle.host_group.specs.declared.view.Row.{Row}
-use Rattle.host_group.specs.Seats.{admitted, back, member, view_of}
-use Rattle.host_group.specs.Steps.{IsBusy}
-use Rattle.host_group.specs.Views.{is_in, member_count, row_count, total}
+use Rattle.host_record.specs.{is_last}
+use Rattle.host_model.specs.{closings, instance_of, is_member, below, count, request_at}
+use Rattle.host_group.specs.{CellSeat, Member, Row, admitted, back, member, view_of, IsBusy, is_in_instance, member_count, row_count}
+use Rattle.host_log.specs.{total}
 use Rattle.host_group.specs.Views as cell
-use Rattle.host_intake.specs.Entries.{Taking, Landing, request_in, requests_of}
-use Rattle.host_intake.specs.Members.{AreInCells, backs, is_member_at, is_right_out, member_at}
-use Rattle.host_intake.specs.Told.{is_open, is_out}
+use Rattle.host_intake.specs.{Taking, Landing, request_in, requests_of, AreInCells, backs, is_member_at, is_right_out, member_at, is_open, is_out}
 use Rattle.host_intake.proofs.Counting.{count_agree}
-use Rattle.host_intake.proofs.Ledgering.{and_left, and_right}
+use Rattle.host_log.proofs.Bools.{and_left, and_right}
 use Rattle.host_intake.proofs.Membering.{closings_same}
 
 -- where some pass, one of them does
@@ -41,7 +33,7 @@ module _ (g j : ℕ) where
   abbrev pub is_of : List Request → ℕ → Bool
   is_of rs i = option_map_or in_instance (member_at rs i) false
 
-  count_one : {A : Type 0} (m : Member) (x : A) (l : List A) (n : ℕ) → n ≡ length l → is_in g j m + n ≡ length (cond (in_instance m) (x ∷ l) l)
+  count_one : {A : Type 0} (m : Member) (x : A) (l : List A) (n : ℕ) → n ≡ length l → is_in_instance g j m + n ≡ length (cond (in_instance m) (x ∷ l) l)
   count_one m x l n e = step (m.number == g) (m.instance == j)
     where
       step : (a b : Bool) → cond a (cond b 1 0) 0 + n ≡ length (cond (a && b) (x ∷ l) l)
@@ -49,14 +41,14 @@ module _ (g j : ℕ) where
       step true false = omega arith
       step false b = omega arith
 
-  members_counted : (rs : List Request) (ns : List ℕ) → total (is_in g j) (filter_map (member_at rs) ns) ≡ count (is_of rs) ns
+  members_counted : (rs : List Request) (ns : List ℕ) → total (is_in_instance g j) (filter_map (member_at rs) ns) ≡ count (is_of rs) ns
   members_counted rs [] = refl
   members_counted rs (n ∷ ns) = step (member_at rs n) (members_counted rs ns)
     where
-      step : (o : Option Member) → total (is_in g j) (filter_map (member_at rs) ns) ≡ count (is_of rs) ns
-          → total (is_in g j) (cons_option o (filter_map (member_at rs) ns)) ≡ length (cond (option_map_or in_instance o false) (n ∷ filter (is_of rs) ns) (filter (is_of rs) ns))
+      step : (o : Option Member) → total (is_in_instance g j) (filter_map (member_at rs) ns) ≡ count (is_of rs) ns
+          → total (is_in_instance g j) (cons_option o (filter_map (member_at rs) ns)) ≡ length (cond (option_map_or in_instance o false) (n ∷ filter (is_of rs) ns) (filter (is_of rs) ns))
       step None e = e
-      step (Some m) e = count_one m n (filter (is_of rs) ns) (total (is_in g j) (filter_map (member_at rs) ns)) e
+      step (Some m) e = count_one m n (filter (is_of rs) ns) (total (is_in_instance g j) (filter_map (member_at rs) ns)) e
 
   rows_counted : (rs : List Request) (l : List Row) → ((k : ℕ) (r : Row) → slice_get l k ≡ Some r → member_at rs r.member.index ≡ Some r.member) → row_count g j l ≡ backs (is_of rs) l
   rows_counted rs [] h = refl
@@ -95,7 +87,7 @@ flies ts ls q g k busy =
     let some = some_from (λ i. is_of g j rs i && is_right_out rs ls i) 0 n (omega arith) in
     let i = some.0 in let within = some.1 in
     let of = and_left (is_of g j rs i) (is_right_out rs ls i) some.2 in let out = and_right (is_of g j rs i) (is_right_out rs ls i) some.2 in
-    let closed : closings g rs ≡ j + 1 = sym (ap (λ l. cell.closings g l) k.told ∙ closings_same g rs) ∙ busy.1 in (
+    let closed : closings g rs ≡ j + 1 = sym (ap (λ l. cell.members_closing g l) k.told ∙ closings_same g rs) ∙ busy.1 in (
       i,
       j,
       ap (λ z. z && is_open ls i) (lt-ltb i n (omega arith)) ∙ and_right (is_member_at rs i) (is_open ls i) out,

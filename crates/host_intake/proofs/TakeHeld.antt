@@ -4,26 +4,16 @@ use Rattle.std.specs.Prelude.{slice_get, unwrap_or}
 use mathlib.Core.List.{IsPrefix}
 use Rattle.atomic_table.specs.Seated.{TableId}
 use Rattle.host_block.specs.declared.range.Range.{Range}
-use Rattle.host_record.specs.Request.{request_of}
-use Rattle.host_model.specs.Groups.{is_member}
-use Rattle.host_model.specs.Lists.{below, count}
-use Rattle.host_model.specs.declared.memory.MemEntry.{MemEntry}
-use Rattle.host_memory.specs.declared.limits.MemoryPlan.{MemoryPlan}
-use Rattle.host_group.specs.declared.seat.CellSeat.{CellSeat}
-use Rattle.host_group.specs.declared.view.Row.{Row}
-use Rattle.host_group.specs.Seats.{IsAdmittingOf, seat_cells, admitted, back, next, view_of}
-use Rattle.host_group.specs.Steps.{IsBusy}
-use Rattle.host_rings.specs.declared.envelope.Envelope.{Envelope}
-use Rattle.host_turn.specs.Seats.{IsOutside, fixed_part, number, seen_by}
-use Rattle.host_intake.specs.Admissions.{HasTaken, IsOpen, IsStalled, entry_for}
-use Rattle.host_intake.specs.Entries.{Taking, takings, landings, requests_of}
-use Rattle.host_intake.specs.Intaken.{IsIntake, IsResting}
-use Rattle.host_intake.specs.Members.{backs, is_member_at, is_of_member, is_right_out, landing_ending, row_ending}
-use Rattle.host_intake.specs.State.{IntakeState, MemorySeat}
-use Rattle.host_intake.specs.Takings.{AreTaken, IsJudged}
-use Rattle.host_intake.specs.Waits.{AreWaiting}
+use Rattle.host_record.specs.{request_of}
+use Rattle.host_model.specs.{is_member, below, count, MemEntry}
+use Rattle.host_memory.specs.{MemoryPlan}
+use Rattle.host_group.specs.{CellSeat, Row, IsAdmittingOf, seat_cells, admitted, back, next, view_of, IsBusy}
+use Rattle.host_rings.specs.{Envelope}
+use Rattle.host_turn.specs.{IsOutside, fixed_part, number, seen_by}
+use Rattle.host_intake.specs.{HasTaken, IsOpen, IsStalled, taking_entry, Taking, takings, landings, requests_of, IsIntake, IsResting, backs, is_member_at, is_of_member, is_right_out, landing_ending, row_ending, IntakeState, MemorySeat, AreTaken, IsJudged, AreWaiting}
 use Rattle.host_intake.proofs.HeldTaken.{index_next}
-use Rattle.host_intake.proofs.Judging.{get_last, judged_longer}
+use Rattle.host_intake.proofs.Judging.{judged_longer}
+use Rattle.host_log.proofs.Places.{get_last}
 use Rattle.host_intake.proofs.Stalling.{flies}
 
 -- the seat that rests, after it was used
@@ -74,7 +64,7 @@ module _ (s : IntakeState) (k : IsIntake s) where
       in_flight = flies (takings s.entries) (landings s.entries) s.cell_seat (request_of e.bytes).group k.cells busy;
     }
 
-    pub has_taken : (new : IntakeState) (seat : MemorySeat) (t : Taking) → t.envelope ≡ e → new.entries ≡ s.entries ++ entry_for t ∷ [] → new.held ≡ None → IsJudged s.part (number s.memory_seat) (seen_by seat) t → HasTaken s new seat e t
+    pub has_taken : (new : IntakeState) (seat : MemorySeat) (t : Taking) → t.envelope ≡ e → new.entries ≡ s.entries ++ taking_entry t ∷ [] → new.held ≡ None → IsJudged s.part (number s.memory_seat) (seen_by seat) t → HasTaken s new seat e t
     has_taken new seat t of entries none judged = record {
       envelope = of;
       first = first_held;

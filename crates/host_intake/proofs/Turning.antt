@@ -1,25 +1,19 @@
 -- What an intake keeps beside its history, once an answer was handed on or the session was turned.
-use Rattle.std.proofs.Common.{◌≡◌, ℕ, ◌+◌, ◌≤◌, ◌<◌, Bool, true, false, ◌||◌, cond, List, [], ◌∷◌, ◌++◌, length, filter_map, map, drop, refl, sym, ap, subst, ◌∙◌, arith, length-append}
+use Rattle.std.proofs.Common.{◌≡◌, ℕ, ◌+◌, ◌≤◌, ◌<◌, Bool, true, false, cond, List, [], ◌∷◌, ◌++◌, length, filter_map, map, drop, refl, sym, ap, subst, ◌∙◌, arith, length-append}
 use Rattle.std.specs.List.{list_any, list_all}
 use Rattle.std.proofs.lemmas.List.{drop-drop, length-drop}
 use Rattle.std.proofs.lemmas.List.Folds.{list_any-append}
-use Rattle.host_block.specs.Room.{WithRoom}
-use Rattle.host_group.specs.Ends.{greatest}
-use Rattle.host_model.specs.declared.row.TakenRow.{TakenRow}
-use Rattle.host_model.specs.Lists.{all_with_before, below, count, last}
+use Rattle.host_block.specs.{WithRoom}
+use Rattle.host_group.specs.{greatest}
+use Rattle.host_model.specs.{all_with_before, below, count, last}
 use Rattle.host_model.proofs.Growth.{all_with_before-push}
 use Rattle.host_model.proofs.ListTests.{and-from}
-use Rattle.host_rings.specs.declared.slip.Slip.{Slip}
+use Rattle.host_rings.specs.{Slip}
 use Rattle.host_memory.proofs.Pushed.{filter_map_skip, filter_map_add, count_skip, count_add, last_snoc}
-use Rattle.host_intake.specs.declared.entry.IntakeEntry.{IntakeEntry}
-use Rattle.host_intake.specs.declared.entry.IntakeEntry.TheVariants.{Passed, Turned}
-use Rattle.host_intake.specs.declared.entry.Phase.{Phase}
-use Rattle.host_intake.specs.declared.entry.Phase.TheVariants.{Running, Closed}
-use Rattle.host_intake.specs.Entries.{Taking, Landing, taking_of, landing_of, takings, landings, place_of}
-use Rattle.host_intake.specs.Ledgers.{IsLedger, is_before, is_course, is_taken_open}
-use Rattle.host_intake.specs.Told.{is_open, flights_in, turn_of, turns, kept_by, is_passed, kept_slips, phase_in, was_aborted, is_aborted, row_in, seen_of}
+use Rattle.host_intake.specs.{IntakeEntry, Passed, Turned, Phase, Running, Closed, Taking, Landing, taking_of, landing_of, takings, landings, place_of, IsLedger, is_before, is_course, is_taken_open, is_open, flights_in, turn_of, turns, kept_by, is_passed, kept_slips, phase_in, was_aborted, is_aborted_phase, seen_of}
 use Rattle.host_intake.proofs.Pushing.{kept_few}
 use Rattle.host_intake.proofs.Ledgering.{course_few, phase_from, room_for, ended_few}
+use Rattle.host_log.proofs.Bools.{or_off, or_on}
 
 -- ---- an answer was handed on
 
@@ -63,7 +57,7 @@ module _ (room : ℕ) (l : WithRoom IntakeEntry) (phase : Phase) (flights : ℕ)
           kept_are = ap (λ (z : List Slip). drop 1 z) k.kept_are ∙ (sym step.1
               ∙ (ap (λ n. cond (was_aborted es) [] (drop n (filter_map kept_by es))) (sym passed)
               ∙ (ap (λ z. cond (was_aborted es) [] (drop (count is_passed (es ++ e ∷ [])) z)) (sym slips)
-              ∙ ap (λ (a : List Phase). cond (list_any is_aborted a) [] (drop (count is_passed (es ++ e ∷ [])) (filter_map kept_by (es ++ e ∷ [])))) (sym ps))));
+              ∙ ap (λ (a : List Phase). cond (list_any is_aborted_phase a) [] (drop (count is_passed (es ++ e ∷ [])) (filter_map kept_by (es ++ e ∷ [])))) (sym ps))));
           limit = omega arith;
           front_is = subst (λ (z : List Taking). front ≡ greatest (map seen_of z)) (sym ts) k.front_is;
         }
@@ -78,7 +72,7 @@ module _ (room : ℕ) (l : WithRoom IntakeEntry) (phase : Phase) (flights : ℕ)
         room_for room l phase flights kept front k (omega arith)
 
     pub ledger_turned : (hand : ℕ) (slips : List Slip) → (p ≡ Closed → flights ≡ 0) → length slips ≤ length kept
-        → slips ≡ cond (list_any is_aborted (turns l.items ++ p ∷ [])) [] (drop (count is_passed l.items) (filter_map kept_by l.items))
+        → slips ≡ cond (list_any is_aborted_phase (turns l.items ++ p ∷ [])) [] (drop (count is_passed l.items) (filter_map kept_by l.items))
         → IsLedger room (record l { items = l.items ++ Turned hand p ∷ [] }) p flights slips front
     ledger_turned hand slips shut fewer are =
         let es = l.items in let e = Turned hand p in
@@ -103,29 +97,21 @@ module _ (room : ℕ) (l : WithRoom IntakeEntry) (phase : Phase) (flights : ℕ)
           over = λ c. shut (sym ph ∙ c);
           before_close = all_with_before-push is_taken_open es e ∙ and-from (all_with_before is_taken_open es) (is_taken_open es e) k.before_close refl;
           flights_are = subst (λ (z : List Landing). flights + length z ≡ length (takings (es ++ e ∷ []))) (sym ls) (subst (λ (z : List Taking). flights + length (landings es) ≡ length z) (sym ts) k.flights_are);
-          kept_are = are ∙ (ap (λ (a : List Phase). cond (list_any is_aborted a) [] (drop (count is_passed es) (filter_map kept_by es))) (sym ps)
+          kept_are = are ∙ (ap (λ (a : List Phase). cond (list_any is_aborted_phase a) [] (drop (count is_passed es) (filter_map kept_by es))) (sym ps)
               ∙ (ap (λ n. cond (was_aborted (es ++ e ∷ [])) [] (drop n (filter_map kept_by es))) (sym passed) ∙ ap (λ z. cond (was_aborted (es ++ e ∷ [])) [] (drop (count is_passed (es ++ e ∷ [])) z)) (sym answers)));
           limit = omega arith;
           front_is = subst (λ (z : List Taking). front ≡ greatest (map seen_of z)) (sym ts) k.front_is;
         }
 
-    pub or_off : (b c : Bool) → c ≡ false → (b || (c || false)) ≡ b
-    or_off true c e = refl
-    or_off false c e = ap (λ z. z || false) e
-
-    pub or_on : (b c : Bool) → c ≡ true → (b || (c || false)) ≡ true
-    or_on true c e = refl
-    or_on false c e = ap (λ z. z || false) e
-
     -- it was turned to another phase than aborted
-    pub ledger_goes_on : (hand : ℕ) → (p ≡ Closed → flights_in l.items ≡ 0) → is_aborted p ≡ false → IsLedger room (record l { items = l.items ++ Turned hand p ∷ [] }) p flights kept front
+    pub ledger_goes_on : (hand : ℕ) → (p ≡ Closed → flights_in l.items ≡ 0) → is_aborted_phase p ≡ false → IsLedger room (record l { items = l.items ++ Turned hand p ∷ [] }) p flights kept front
     ledger_goes_on hand shut other =
         let f = k.flights_are in
         ledger_turned hand kept (λ c. let z = shut c in omega arith) (omega arith)
-        (k.kept_are ∙ ap (λ b. cond b [] (drop (count is_passed l.items) (filter_map kept_by l.items))) (sym (list_any-append is_aborted (turns l.items) (p ∷ []) ∙ or_off (was_aborted l.items) (is_aborted p) other)))
+        (k.kept_are ∙ ap (λ b. cond b [] (drop (count is_passed l.items) (filter_map kept_by l.items))) (sym (list_any-append is_aborted_phase (turns l.items) (p ∷ []) ∙ or_off (was_aborted l.items) (is_aborted_phase p) other)))
 
     -- it was aborted
-    pub ledger_aborted : (hand : ℕ) → (p ≡ Closed → ⊥) → is_aborted p ≡ true → IsLedger room (record l { items = l.items ++ Turned hand p ∷ [] }) p flights [] front
+    pub ledger_aborted : (hand : ℕ) → (p ≡ Closed → ⊥) → is_aborted_phase p ≡ true → IsLedger room (record l { items = l.items ++ Turned hand p ∷ [] }) p flights [] front
     ledger_aborted hand other aborts =
         ledger_turned hand [] (λ c. absurd (other c)) (omega arith)
-        (ap (λ b. cond b [] (drop (count is_passed l.items) (filter_map kept_by l.items))) (sym (list_any-append is_aborted (turns l.items) (p ∷ []) ∙ or_on (was_aborted l.items) (is_aborted p) aborts)))
+        (ap (λ b. cond b [] (drop (count is_passed l.items) (filter_map kept_by l.items))) (sym (list_any-append is_aborted_phase (turns l.items) (p ∷ []) ∙ or_on (was_aborted l.items) (is_aborted_phase p) aborts)))

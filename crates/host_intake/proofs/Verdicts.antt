@@ -1,5 +1,5 @@
 -- The verdicts on the records taken are those of the definition, while no buffer was released but by a close.
-use Rattle.std.proofs.Common.{◌≡◌, ◌⊎◌, inl, inr, ℕ, zero, suc, ◌+◌, ◌≤◌, ◌<◌, ◌==◌, Bool, true, false, ◌&&◌, ◌||◌, nat_lt, cond, List, [], ◌∷◌, ◌++◌, length, filter, filter_map, get_or, map, take, drop, Option, Some, None, MatchOption, refl, sym, ap, subst, ◌∙◌, arith, eq-eqb}
+use Rattle.std.proofs.Common.{◌≡◌, ◌⊎◌, inl, inr, ℕ, zero, suc, ◌+◌, ◌≤◌, ◌<◌, ◌==◌, Bool, true, false, ◌&&◌, ◌||◌, nat_lt, cond, List, [], ◌∷◌, ◌++◌, length, filter_map, get_or, map, take, drop, Option, Some, None, MatchOption, refl, sym, ap, subst, ◌∙◌, arith, eq-eqb}
 use Rattle.std.proofs.Math.Bool.{or-true}
 use Rattle.std.specs.Prelude.{slice_get, flat_map, unwrap_or, position}
 use Rattle.std.specs.Bool.{then_some}
@@ -11,31 +11,18 @@ use Rattle.std.proofs.lemmas.List.Quantifiers.{position-Some}
 use Rattle.std.proofs.lemmas.Option.{slice_get-map, get_or_from_slice_get}
 use Rattle.host_block.specs.declared.range.Range.{Range}
 use Rattle.host_block.proofs.Places.{any_at, from_take, in_take}
-use Rattle.host_record.specs.declared.opcode.Opcode.{Opcode}
-use Rattle.host_record.specs.declared.opcode.Opcode.TheVariants.{Read, Write, Flush, Trim, Close}
+use Rattle.host_record.specs.{Opcode, Read, Write, Flush, Trim, Close, opcode, is_close, request_of}
 use Rattle.host_record.specs.declared.request.Request.{Request}
-use Rattle.host_record.specs.Command.{opcode, is_close}
-use Rattle.host_record.specs.Request.{request_of}
-use Rattle.host_model.specs.declared.memory.MemEntry.{MemEntry}
-use Rattle.host_model.specs.declared.memory.MemEvent.{MemEvent}
-use Rattle.host_model.specs.declared.memory.MemEvent.TheVariants.{Pin, Release}
+use Rattle.host_model.specs.{MemEntry, MemEvent, Pin, Release, Accepted, Refused, lent_in, request_at, index_of, closes, is_accepted, is_closed, judged, verdict_after, verdicts_on}
 use Rattle.host_model.specs.declared.memory.MemEvent.TheVariants as mem
 use Rattle.host_model.specs.declared.verdict.Verdict.{Verdict}
-use Rattle.host_model.specs.declared.verdict.Verdict.TheVariants.{Accepted, Refused}
-use Rattle.host_model.specs.ClientEntries.{lent_in}
-use Rattle.host_model.specs.Log.{request_at}
-use Rattle.host_model.specs.RecordEntries.{index_of}
-use Rattle.host_model.specs.Verdict.{closes, is_accepted, is_closed, judged, verdict_after, verdicts_on}
-use Rattle.host_memory.specs.Held.{closer_by, closer_of, standing_in}
-use Rattle.host_memory.specs.Numbers.{is_numbered}
-use Rattle.host_memory.specs.State.{events}
-use Rattle.host_intake.specs.Entries.{Taking, place_of, request_in, requests_of}
-use Rattle.host_intake.specs.Laws.{Lends}
-use Rattle.host_intake.specs.Takings.{AreTaken, judged_on, left_by, made, made_for, made_under, under}
+use Rattle.host_memory.specs.{closer_by, closer_of, standing_in, is_numbered, events}
+use Rattle.host_intake.specs.{Taking, place_of, request_in, requests_of, Lends, AreTaken, judged_on, left_by, made, made_for, made_under, under}
 use Rattle.host_intake.proofs.Attached.{standing_is_lent}
 use Rattle.host_intake.proofs.Judging.{hand_of, single}
 use Rattle.host_intake.proofs.Leaving.{position_none}
 use Rattle.host_intake.proofs.Readiness.{all_at, first_found}
+use Rattle.host_log.proofs.Places.{any_here, in_filter, get_append}
 
 -- ---- lists
 
@@ -52,12 +39,6 @@ module _ {A : Type 0} where
   any_map : {B : Type 0} (p : B → Bool) (f : A → B) (xs : List A) → list_any p (map f xs) ≡ list_any (λ x. p (f x)) xs
   any_map p f [] = refl
   any_map p f (x ∷ xs) = ap (λ b. p (f x) || b) (any_map p f xs)
-
-  any_here : (p : A → Bool) (xs : List A) (n : ℕ) (x : A) → slice_get xs n ≡ Some x → p x ≡ true → list_any p xs ≡ true
-  any_here p [] zero x e y = absurd (cc)
-  any_here p [] (suc n) x e y = absurd (cc)
-  any_here p (z ∷ zs) zero x e y = ap (λ b. b || list_any p zs) (ap (λ (o : Option A). p (unwrap_or o z)) e ∙ y)
-  any_here p (z ∷ zs) (suc n) x e y = ap (λ b. p z || b) (any_here p zs n x e y) ∙ or-true (p z)
 
   any_get : (p : A → Bool) (xs : List A) (n : ℕ) (d : A) → n < length xs → p (get_or xs n d) ≡ true → list_any p xs ≡ true
   any_get p [] n d h y = absurd (omega arith)
@@ -82,30 +63,15 @@ module _ {A : Type 0} where
   drop_first (y ∷ ys) zero (suc m) x rest e = ap (λ (l : List A). Some (get_or l 0 y)) e
   drop_first (y ∷ ys) (suc n) m x rest e = drop_first ys n m x rest e
 
-  in_filter : (p : A → Bool) (xs : List A) (n : ℕ) (x : A) → slice_get xs n ≡ Some x → p x ≡ true → (m : ℕ) × (slice_get (filter p xs) m ≡ Some x)
-  in_filter p [] zero x e y = absurd (cc)
-  in_filter p [] (suc n) x e y = absurd (cc)
-  in_filter p (z ∷ zs) zero x e y = (0, ap (λ b. slice_get (cond b (z ∷ filter p zs) (filter p zs)) 0) (ap (λ (o : Option A). p (unwrap_or o z)) e ∙ y) ∙ e)
-  in_filter p (z ∷ zs) (suc n) x e y = step (p z) (in_filter p zs n x e y)
-    where
-      step : (b : Bool) → (m : ℕ) × (slice_get (filter p zs) m ≡ Some x) → (m : ℕ) × (slice_get (cond b (z ∷ filter p zs) (filter p zs)) m ≡ Some x)
-      step true r = (suc r.0, r.1)
-      step false r = r
-
-  get_front : (xs ys : List A) (n : ℕ) (x : A) → slice_get (xs ++ ys) n ≡ Some x → ((slice_get xs n ≡ Some x)) ⊎ ((m : ℕ) × (slice_get ys m ≡ Some x))
-  get_front [] ys n x e = inr (n, e)
-  get_front (y ∷ xs) ys zero x e = inl e
-  get_front (y ∷ xs) ys (suc n) x e = get_front xs ys n x e
-
-  in_flat : {B : Type 0} (f : B → List A) (us : List B) (n : ℕ) (x : A) → slice_get (flat_map f us) n ≡ Some x → (k : ℕ) × (u : B) × (m : ℕ) × (slice_get us k ≡ Some u) × (slice_get (f u) m ≡ Some x)
+  pub in_flat : {B : Type 0} (f : B → List A) (us : List B) (n : ℕ) (x : A) → slice_get (flat_map f us) n ≡ Some x → (k : ℕ) × (u : B) × (m : ℕ) × (slice_get us k ≡ Some u) × (slice_get (f u) m ≡ Some x)
   in_flat f [] zero x e = absurd (cc)
   in_flat f [] (suc n) x e = absurd (cc)
-  in_flat {B} f (u ∷ us) n x e = step (get_front (f u) (flat_map f us) n x e) (λ m h. in_flat f us m x h)
+  in_flat {B} f (u ∷ us) n x e = step (get_append (f u) (flat_map f us) n x e) (λ m h. in_flat f us m x h)
     where
-      step : (slice_get (f u) n ≡ Some x) ⊎ ((m : ℕ) × (slice_get (flat_map f us) m ≡ Some x)) → ((m : ℕ) → slice_get (flat_map f us) m ≡ Some x → (k : ℕ) × (w : B) × (m : ℕ) × (slice_get us k ≡ Some w) × (slice_get (f w) m ≡ Some x))
+      step : (slice_get (f u) n ≡ Some x) ⊎ ((m : ℕ) × (n ≡ length (f u) + m) × (slice_get (flat_map f us) m ≡ Some x)) → ((m : ℕ) → slice_get (flat_map f us) m ≡ Some x → (k : ℕ) × (w : B) × (m : ℕ) × (slice_get us k ≡ Some w) × (slice_get (f w) m ≡ Some x))
           → (k : ℕ) × (w : B) × (m : ℕ) × (slice_get (u ∷ us) k ≡ Some w) × (slice_get (f w) m ≡ Some x)
       step (inl h) more = (0, u, n, refl, h)
-      step (inr h) more = let r = more h.0 h.1 in (suc r.0, r.1, r.2, r.3, r.4)
+      step (inr h) more = let r = more h.0 h.2 in (suc r.0, r.1, r.2, r.3, r.4)
 
 -- ---- what a close leaves
 
@@ -122,7 +88,7 @@ closes_left Accepted (Some Close) i id hand false v e = (Release id ∷ [], refl
 abbrev IsCloser : Verdict → Option Opcode → ℕ → ℕ → ℕ → MemEvent → Type 0
 IsCloser vd o i id v what = (j : ℕ) → closer_by v what ≡ Some j → ((is_accepted vd && is_close o && id == v) ≡ true) × (i ≡ j)
 
-some_then : (b : Bool) (i j : ℕ) → then_some b i ≡ Some j → (b ≡ true) × (i ≡ j)
+pub some_then : (b : Bool) (i j : ℕ) → then_some b i ≡ Some j → (b ≡ true) × (i ≡ j)
 some_then true i j e = (refl, ap (λ (o : Option ℕ). unwrap_or o i) e)
 some_then false i j e = absurd (cc)
 

@@ -15,7 +15,8 @@ use Rattle.host_intake.specs.declared.entry.RecordEnd.{RecordEnd}
 abbrev pub lone_slip : Request → ℕ → RecordEnd → Slip
 lone_slip r i end = record {
   index = i;
-  bytes = response_bytes (record { status = status_number end.outcome; reqid = r.reqid; group = 0; count = 1 });
+  bytes = response_bytes
+      (record { status = status_number end.outcome; reqid = r.reqid; group = 0; count = 1 });
   device_front = end.device_front;
   memory_front = end.memory_front;
 }
@@ -24,7 +25,8 @@ lone_slip r i end = record {
 abbrev pub group_slip : ℕ → GroupEnd → Slip
 group_slip g e = record {
   index = e.index;
-  bytes = response_bytes (record { status = status_number e.status; reqid = e.reqid; group = g; count = e.count });
+  bytes = response_bytes
+      (record { status = status_number e.status; reqid = e.reqid; group = g; count = e.count });
   device_front = e.device_front;
   memory_front = e.memory_front;
 }

@@ -33,11 +33,14 @@ pub record Landing : Type 0 where
   pub kept : Bool
 
 abbrev pub taking_of : IntakeEntry → Option Taking
-taking_of (Took hand envelope verdict waits seen) = Some (record { hand = hand; envelope = envelope; verdict = verdict; waits = waits; seen = seen })
+taking_of (Took hand envelope verdict waits seen) =
+    Some
+    (record { hand = hand; envelope = envelope; verdict = verdict; waits = waits; seen = seen })
 taking_of _ = None
 
 abbrev pub landing_of : IntakeEntry → Option Landing
-landing_of (Landed hand index end answer kept) = Some (record { hand = hand; index = index; end = end; answer = answer; kept = kept })
+landing_of (Landed hand index end answer kept) =
+    Some (record { hand = hand; index = index; end = end; answer = answer; kept = kept })
 landing_of _ = None
 
 -- the records taken, in order

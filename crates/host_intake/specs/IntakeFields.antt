@@ -19,5 +19,5 @@ intake_state a = record {
 }
 
 -- there is room for all closes that may wait
-abbrev pub IsKept : Inside → Type 0
-IsKept a = IsIntake (intake_state a) × (64 ≤ vec_capacity a.waiting)
+abbrev pub IsIntakeKept : Inside → Type 0
+IsIntakeKept a = IsIntake (intake_state a) × (64 ≤ vec_capacity a.waiting)

@@ -1,5 +1,6 @@
 -- What is true of every intake.
-use Rattle.std.specs.Prelude.{◌≡◌, ℕ, ◌+◌, ◌<◌, ◌≤◌, Bool, true, false, ◌==◌, List, [], ◌∷◌, length, map, take, drop, IsTrue, Option, Some, None, MatchOption}
+use Rattle.std.specs.Prelude.{◌≡◌, ℕ, ◌+◌, ◌<◌, ◌≤◌, Bool, true, false, ◌==◌, List, [], ◌∷◌, length}
+use Rattle.std.specs.Prelude.{map, take, drop, IsTrue, Option, Some, None, MatchOption}
 use Rattle.std.specs.List.{list_all}
 use Rattle.host_rings.specs.declared.envelope.Envelope.{Envelope}
 use Rattle.host_rings.specs.RequestEnds.{TakerState}
@@ -15,13 +16,12 @@ use Rattle.host_intake.specs.State.{IntakeState, MemorySeat, IsForAdmissions}
 use Rattle.host_intake.specs.Takings.{AreTaken}
 use Rattle.host_intake.specs.Told.{turns, phase_in, was_aborted, flights_in, kept_slips}
 use Rattle.host_intake.specs.Waits.{AreWaiting}
+use Rattle.host_memory.specs.Kept.{listed}
 
-abbrev pub listed : {A : Type 0} → Option A → List A
-listed None = []
-listed (Some x) = x ∷ []
-
--- What was popped is what was taken and at most one record more, which is held, or which an abort dropped.
-pub record ArePopped (room : ℕ) (es : List IntakeEntry) (held : Option Envelope) (taker : TakerState) : Type 0 where
+-- What was popped is what was taken and at most one record more, which is held, or which an abort
+-- dropped.
+pub record ArePopped (room : ℕ) (es : List IntakeEntry) (held : Option Envelope)
+    (taker : TakerState) : Type 0 where
   pub taken : take (length (takings es)) taker.taken ≡ map envelope_of (takings es)
   pub left : was_aborted es ≡ false → drop (length (takings es)) taker.taken ≡ listed held
   pub dropped : was_aborted es ≡ true → held ≡ None
@@ -53,6 +53,7 @@ pub record IsIntake (s : IntakeState) : Type 0 where
   pub taken : AreTaken s.part (number s.memory_seat) (seen_by s.memory_seat) (takings s.entries)
   pub landed : AreLanded (takings s.entries) (landings s.entries)
   pub cells : AreInCells (takings s.entries) (landings s.entries) s.cell_seat
-  pub waiting : AreWaiting (seat_cells s.cell_seat) (takings s.entries) (landings s.entries) s.waiting
+  pub waiting : AreWaiting (seat_cells s.cell_seat) (takings s.entries) (landings s.entries)
+      s.waiting
   pub turned : AreTurned (number s.memory_seat) s.entries
   pub limit : flights_in s.entries + length (kept_slips s.entries) ≤ 64

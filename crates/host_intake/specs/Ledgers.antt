@@ -1,5 +1,7 @@
 -- What an intake keeps beside its history, so that it need not look through it.
-use Rattle.std.specs.Prelude.{◌≡◌, ℕ, ◌+◌, ◌*◌, ◌≤◌, Bool, true, false, not, ◌&&◌, nat_lt, if◌then◌else◌, option_to_list, Option, List, [], ◌∷◌, length, map, filter_map, IsTrue}
+use Rattle.std.specs.Prelude.{◌≡◌, ℕ, ◌+◌, ◌*◌, ◌≤◌, Bool, true, false, not, ◌&&◌, nat_lt}
+use Rattle.std.specs.Prelude.{if◌then◌else◌, option_to_list, Option, List, [], ◌∷◌, length, map}
+use Rattle.std.specs.Prelude.{filter_map, IsTrue}
 use Rattle.std.specs.List.{list_all}
 use Rattle.host_block.specs.Room.{WithRoom}
 use Rattle.host_model.specs.declared.row.TakenRow.{TakenRow}
@@ -10,9 +12,11 @@ use Rattle.host_intake.specs.declared.entry.IntakeEntry.TheVariants.{Took}
 use Rattle.host_intake.specs.declared.entry.Phase.{Phase}
 use Rattle.host_intake.specs.declared.entry.Phase.TheVariants.{Closed}
 use Rattle.host_intake.specs.Entries.{Landing, takings, landings, place_of}
-use Rattle.host_intake.specs.Told.{is_aborted, is_open, phase_in, turns, is_ending, kept_by, kept_slips, is_passed, memory_front_in, rows_in}
+use Rattle.host_intake.specs.Told.{is_aborted_phase, is_open, phase_in, turns, is_ending, kept_by}
+use Rattle.host_intake.specs.Told.{kept_slips, is_passed, memory_front_in, rows_in}
 
--- a ledger, as contracts see it: for how many records it has room, whether their rows are kept, and the history
+-- a ledger, as contracts see it: for how many records it has room, whether their rows are kept, and
+-- the history
 pub record LedgerState : Type 0 where
   pub room : ℕ
   pub keeps : Bool
@@ -27,9 +31,11 @@ abbrev pub is_last_turn : List Phase → Bool
 is_last_turn [] = true
 is_last_turn (p ∷ ps) = is_shut p && is_nil ps
 
--- the answer that a record's end leaves with the intake, if it is to be kept and the session wasn't aborted
+-- the answer that a record's end leaves with the intake, if it is to be kept and the session wasn't
+-- aborted
 abbrev pub slips_to_keep : Phase → Bool → Option Slip → List Slip
-slips_to_keep phase kept answer = if kept && not (is_aborted phase) then option_to_list answer else []
+slips_to_keep phase kept answer =
+    if kept && not (is_aborted_phase phase) then option_to_list answer else []
 
 -- a session runs, is told to end, and is closed
 abbrev pub is_course : List Phase → Bool
@@ -46,11 +52,14 @@ abbrev pub is_before : ℕ → Landing → Bool
 is_before n l = nat_lt l.index n
 
 -- what is kept is what the history tells, and there is room for all entries that may come
-pub record IsLedger (room : ℕ) (l : WithRoom IntakeEntry) (phase : Phase) (flights : ℕ) (kept : List Slip) (front : ℕ) : Type 0 where
+pub record IsLedger (room : ℕ) (l : WithRoom IntakeEntry) (phase : Phase) (flights : ℕ)
+    (kept : List Slip) (front : ℕ) : Type 0 where
   pub has_room : 3 * room + 2 ≤ l.room
   pub few : length (takings l.items) ≤ room
   pub indexes : map place_of (takings l.items) ≡ below (length (takings l.items))
-  pub once : length (landings l.items) + count (is_open (landings l.items)) (below (length (takings l.items))) ≡ length (takings l.items)
+  pub once : length (landings l.items)
+      + count (is_open (landings l.items)) (below (length (takings l.items)))
+      ≡ length (takings l.items)
   pub within : IsTrue (list_all (is_before (length (takings l.items))) (landings l.items))
   pub course : IsTrue (is_course (turns l.items))
   pub passed : count is_passed l.items ≤ length (filter_map kept_by l.items)

@@ -1,5 +1,7 @@
 -- What an intake's cells have of its records.
-use Rattle.std.specs.Prelude.{◌≡◌, ℕ, ◌+◌, ◌≤◌, ◌<◌, Bool, false, ◌==◌, ◌||◌, ◌&&◌, if◌then◌else◌, List, length, map, filter, filter_map, take, reverse, slice_get, IsTrue, Option, Some, None}
+use Rattle.std.specs.Prelude.{◌≡◌, ℕ, ◌+◌, ◌≤◌, ◌<◌, Bool, false, ◌==◌, ◌||◌, ◌&&◌, if◌then◌else◌}
+use Rattle.std.specs.Prelude.{List, length, map, filter, filter_map, take, reverse, slice_get}
+use Rattle.std.specs.Prelude.{IsTrue, Option, Some, None}
 use Rattle.std.specs.List.{list_all}
 use Rattle.std.specs.Option.{option_map_or}
 use Rattle.host_record.specs.declared.request.Request.{Request}
@@ -19,7 +21,10 @@ use Rattle.host_intake.specs.Told.{is_open}
 
 -- record i as a member of its instance; a lone record is none
 abbrev pub member_at : List Request → ℕ → Option Member
-member_at rs i = let r = request_at rs i in if is_member r then Some (member r.group (closings r.group (take i rs)) i r.reqid (is_last r)) else None
+member_at rs i =
+    let r = request_at rs i in
+    if is_member r then Some (member r.group (closings r.group (take i rs)) i r.reqid (is_last r))
+    else None
 
 -- the members among these requests
 abbrev pub members : List Request → List Member
@@ -33,7 +38,13 @@ abbrev pub landing_ending : Landing → Ending
 landing_ending l = (l.index, (l.end, l.answer))
 
 abbrev pub row_ending : Row → Ending
-row_ending q = (q.member.index, (record { outcome = q.status; device_front = q.device_front; memory_front = q.memory_front }, row_slip q))
+row_ending q = (
+  q.member.index,
+  (
+    record { outcome = q.status; device_front = q.device_front; memory_front = q.memory_front },
+    row_slip q,
+  ),
+)
 
 -- the record that ended is a member
 abbrev pub is_of_member : List Request → Landing → Bool
@@ -41,11 +52,13 @@ is_of_member rs l = is_member (request_at rs l.index)
 
 -- a lone record's end made its own answer due
 abbrev pub IsAnswered : List Request → Landing → Type 0
-IsAnswered rs l = is_of_member rs l ≡ false → l.answer ≡ Some (lone_slip (request_at rs l.index) l.index l.end)
+IsAnswered rs l =
+    is_of_member rs l ≡ false → l.answer ≡ Some (lone_slip (request_at rs l.index) l.index l.end)
 
 -- record i was taken by this hand, or waits for pins
 abbrev pub is_lander : ℕ → ℕ → List Taking → Bool
-is_lander hand i ts = option_map_or (λ (t : Taking). t.hand == hand || t.waits) (slice_get ts i) false
+is_lander hand i ts =
+    option_map_or (λ (t : Taking). t.hand == hand || t.waits) (slice_get ts i) false
 
 -- the record that ended was taken by the hand that tells its end, unless it waited for pins
 abbrev pub is_by_taker : List Taking → Landing → Bool
@@ -68,12 +81,18 @@ is_right_out rs ls i = is_member_at rs i && is_open ls i
 abbrev pub backs : (ℕ → Bool) → List Row → ℕ
 backs p qs = count (λ (q : Row). p q.member.index) qs
 
--- The cells were told of the members among the records taken, in order; the rights of those that ended came back, and
--- say how each ended and which answer that made due. Of the members of any kind some came back and the others are out.
+-- The cells were told of the members among the records taken, in order; the rights of those that
+-- ended came back, and say how each ended and which answer that made due. Of the members of any
+-- kind some came back and the others are out.
 pub record AreInCells (ts : List Taking) (ls : List Landing) (seat : CellSeat) : Type 0 where
   pub resting : IsAdmittingOf (seat_cells seat) seat
   pub told : admitted seat ≡ members (requests_of ts)
   pub above : next seat ≤ length ts
-  pub came_back : map row_ending (back seat) ≡ reverse (map landing_ending (filter (is_of_member (requests_of ts)) ls))
-  pub of_members : (k : ℕ) (q : Row) → slice_get (back seat) k ≡ Some q → (q.member.index < length ts) × (member_at (requests_of ts) q.member.index ≡ Some q.member)
-  pub out : (p : ℕ → Bool) → backs p (back seat) + count (λ i. p i && is_right_out (requests_of ts) ls i) (below (length ts)) ≡ count (λ i. p i && is_member_at (requests_of ts) i) (below (length ts))
+  pub came_back : map row_ending (back seat)
+      ≡ reverse (map landing_ending (filter (is_of_member (requests_of ts)) ls))
+  pub of_members : (k : ℕ) (q : Row) → slice_get (back seat) k ≡ Some q
+      → (q.member.index < length ts) × (member_at (requests_of ts) q.member.index ≡ Some q.member)
+  pub out : (p : ℕ → Bool)
+      → backs p (back seat)
+      + count (λ i. p i && is_right_out (requests_of ts) ls i) (below (length ts))
+      ≡ count (λ i. p i && is_member_at (requests_of ts) i) (below (length ts))

@@ -19,7 +19,8 @@ abbrev pub MemorySeat : Type 0
 MemorySeat = BookSeat MemoryState MemEntry MemoryPlan
 
 pub record IntakeState : Type 0 where
-  -- the partition, the bytes of a block, for how many records everything is reserved, and whether their rows are kept
+  -- the partition, the bytes of a block, for how many records everything is reserved, and whether
+  -- their rows are kept
   pub part : Range
   pub size : ℕ
   pub room : ℕ
@@ -36,8 +37,8 @@ pub record IntakeState : Type 0 where
   pub cell_seat : CellSeat
 
 -- the fixed part
-abbrev pub plan_of : IntakeState → IntakePlan
-plan_of s = record {
+abbrev pub plan_of_intake : IntakeState → IntakePlan
+plan_of_intake s = record {
   part = s.part;
   size = s.size;
   room = s.room;
@@ -48,6 +49,9 @@ plan_of s = record {
   cells = seat_cells s.cell_seat;
 }
 
--- The seat has the admissions' number, one above the client's, of a memory that was made for so many records.
+-- The seat has the admissions' number, one above the client's, of a memory that was made for so
+-- many records.
 abbrev pub IsForAdmissions : ℕ → MemorySeat → Type 0
-IsForAdmissions records seat = MatchOption (fixed_part seat) ⊥ (λ plan. (number seat ≡ plan.limits.hands + 1) × (records ≤ plan.limits.records))
+IsForAdmissions records seat =
+    MatchOption (fixed_part seat) ⊥
+    (λ plan. (number seat ≡ plan.limits.hands + 1) × (records ≤ plan.limits.records))

@@ -1,5 +1,7 @@
--- What the history of an intake tells: the phase, the records in flight, the answers kept, and the rows.
-use Rattle.std.specs.Prelude.{ℕ, ◌-◌, Bool, true, false, not, ◌&&◌, nat_lt, if◌then◌else◌, List, [], length, map, filter_map, drop, find, Option, Some, None}
+-- What the history of an intake tells: the phase, the records in flight, the answers kept, and the
+-- rows.
+use Rattle.std.specs.Prelude.{ℕ, ◌-◌, Bool, true, false, not, ◌&&◌, nat_lt, if◌then◌else◌, List, []}
+use Rattle.std.specs.Prelude.{length, map, filter_map, drop, find, Option, Some, None}
 use Rattle.std.specs.List.{list_any}
 use Rattle.std.specs.Option.{option_map_or}
 use Rattle.host_record.specs.declared.status.Status.{Status}
@@ -27,9 +29,9 @@ turns es = filter_map turn_of es
 abbrev pub phase_in : List IntakeEntry → Phase
 phase_in es = last Running (turns es)
 
-abbrev pub is_aborted : Phase → Bool
-is_aborted Aborted = true
-is_aborted _ = false
+abbrev pub is_aborted_phase : Phase → Bool
+is_aborted_phase Aborted = true
+is_aborted_phase _ = false
 
 -- no record is taken any more
 abbrev pub is_over : Phase → Bool
@@ -45,7 +47,7 @@ is_ending _ = false
 
 -- the session was aborted at some time
 abbrev pub was_aborted : List IntakeEntry → Bool
-was_aborted es = list_any is_aborted (turns es)
+was_aborted es = list_any is_aborted_phase (turns es)
 
 -- ---- the records in flight
 

@@ -11,7 +11,7 @@ use Rattle.host_memory.specs.Held.{closer_of, standing_in}
 use Rattle.host_memory.specs.Pins.{is_pin_for}
 
 -- buffer v stands for record i, which has not pinned it, and no record has closed it
-pub record IsReady (h : List MemEvent) (records i v : ℕ) : Type 0 where
+pub record IsPinReady (h : List MemEvent) (records i v : ℕ) : Type 0 where
   pub room : pin_count h < records
   pub stands : IsSome (standing_in v i h)
   pub open_still : closer_of v h ≡ None
@@ -19,4 +19,5 @@ pub record IsReady (h : List MemEvent) (records i v : ℕ) : Type 0 where
 
 -- an accepted record finds its buffer ready
 abbrev pub IsReadyFor : List MemEvent → ℕ → ℕ → Request → Verdict → Type 0
-IsReadyFor h records i r verdict = verdict ≡ Accepted → names_buffer (opcode r) ≡ true → IsReady h records i r.vmoid
+IsReadyFor h records i r verdict =
+    verdict ≡ Accepted → names_buffer (opcode r) ≡ true → IsPinReady h records i r.vmoid

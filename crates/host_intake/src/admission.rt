@@ -5,7 +5,8 @@ use host_rings::Envelope;
 
 /// What became of a call for the next record.
 ///
-/// The right to settle a record is there where it is a member of a group; a close that waits for pins keeps its right.
+/// The right to settle a record is there where it is a member of a group; a close that waits for
+/// pins keeps its right.
 #[derive(Drop)]
 pub enum Admission {
     /// The session was aborted or is closed.
@@ -21,7 +22,8 @@ pub enum Admission {
         status: Status,
         right: Option<CellSeat>,
     },
-    /// Its buffer is pinned, or closed. The pages are those of a buffer that it closed and that nothing pins.
+    /// Its buffer is pinned, or closed. The pages are those of a buffer that it closed and that
+    /// nothing pins.
     Admitted {
         envelope: Envelope,
         pages: Option<Pages>,

@@ -1,16 +1,21 @@
 //! The next record is taken.
-ghost use Rattle.std.specs.Prelude.{◌≡◌, ◌+◌, ◌<◌, ◌≤◌, [], ◌∷◌, ◌++◌, true, false, Some, None, length, MatchOption, MatchResult};
+ghost use Rattle.std.specs.Prelude.{◌≡◌, ◌+◌, ◌<◌, ◌≤◌, [], ◌∷◌, ◌++◌, true, false, Some, None};
+ghost use Rattle.std.specs.Prelude.{length, MatchOption, MatchResult};
 ghost use Rattle.host_record.specs.Command.{is_last};
 ghost use Rattle.host_model.specs.Groups.{is_member};
-ghost use Rattle.host_group.specs.Seats.{IsAdmitting, IsFewerOut, admitted, back, cells_id, member, next, seat_cells, view_of};
+ghost use Rattle.host_group.specs.Seats.{IsAdmitting, IsFewerOut, admitted, back, cells_id, member};
+ghost use Rattle.host_group.specs.Seats.{next, seat_cells, view_of};
 ghost use Rattle.host_group.specs.Steps.{IsBusy};
-ghost use Rattle.host_turn.specs.History.{Adds, Continues};
-ghost use Rattle.host_turn.specs.Seats.{IsOutside, IsSameSeat, IsSeatOutside, book_id, number, seat_book, seen_by};
+ghost use Rattle.host_rings.specs.RequestEnds.{with_heard};
+ghost use Rattle.host_log.specs.History.{Adds, Continues};
+ghost use Rattle.host_turn.specs.Seats.{IsOutside, IsSameSeat, IsSeatOutside, book_id, number};
+ghost use Rattle.host_turn.specs.Seats.{seat_book, seen_by};
 ghost use Rattle.host_intake.specs.declared.entry.IntakeEntry.TheVariants.{Took};
 ghost use Rattle.host_intake.specs.declared.entry.Phase.TheVariants.{Closed};
-ghost use Rattle.host_intake.specs.Admissions.{FoundNone, IsAdmission, IsMemberAdmitted, IsOpen, IsTakenOrStalled, answer_of, load_in};
+ghost use Rattle.host_intake.specs.Admissions.{FoundNoRecord, IsAdmission, IsMemberAdmitted};
+ghost use Rattle.host_intake.specs.Admissions.{IsOpen, IsTakenOrStalled, admission_of, load_in};
 ghost use Rattle.host_intake.specs.Entries.{maker_of, takings};
-ghost use Rattle.host_intake.specs.State.{plan_of};
+ghost use Rattle.host_intake.specs.State.{plan_of_intake};
 ghost use Rattle.host_intake.specs.Told.{is_over, phase_in};
 
 use crate::admission::Admission;
@@ -24,12 +29,24 @@ use host_group::{CellBusy, CellSeat, Cells};
 use host_memory::Memory;
 use host_model::Verdict;
 use host_record::Request;
-use host_rings::Envelope;
+use host_rings::{Envelope, Note};
 use host_turn::{Book, BookSeat};
 use std::sync::Wait;
 
 impl Intake {
-    /// Takes the next record, if it may be taken and there is one: it is popped, admitted to its group, judged on the buffer history, and pins or closes its buffer. `seat` is the hand's own seat at the memory's book; it has then seen what the record did to its buffer.
+    /// The intake knows from here on that what the note tells was sent.
+    pub fn hear(&mut self, note: Note)
+        requires { note.ring ≡ self.old.taker.ring }
+        ensures heard { self.new
+            ≡ record self.old { taker = with_heard self.old.taker note.pushed } }
+        ensures plan { plan_of_intake self.new ≡ plan_of_intake self.old }
+    {
+        self.taker.hear(note);
+    }
+
+    /// Takes the next record, if it may be taken and there is one: it is popped, admitted to its
+    /// group, judged on the buffer history, and pins or closes its buffer. `seat` is the hand's own
+    /// seat at the memory's book; it has then seen what the record did to its buffer.
     pub fn admit_next<R: Wait>(
         &mut self,
         rt: &R,
@@ -42,9 +59,10 @@ impl Intake {
         requires cells { seat_cells self.old.cell_seat ≡ cells_id cells.now }
         requires seat { IsSeatOutside book.now seat.old }
         ensures seat { IsSameSeat seat.old seat.new × IsOutside seat.new }
-        ensures later { Continues (λ e. e.hand) (number seat.old) (seen_by seat.old) (seen_by seat.new) }
+        ensures later { Continues (λ e. e.hand) (number seat.old) (seen_by seat.old)
+            (seen_by seat.new) }
         ensures answer { IsAdmission hand self.old self.new seat.new result }
-        ensures plan { plan_of self.new ≡ plan_of self.old }
+        ensures plan { plan_of_intake self.new ≡ plan_of_intake self.old }
         ensures adds { Adds maker_of hand self.old.entries self.new.entries }
     {
         if self.is_over() {
@@ -68,7 +86,8 @@ impl Intake {
     // The record that is held, or the next one, which is then held.
     fn hold_next<R: Wait>(&mut self, rt: &R) -> Option<Envelope>
         requires { is_over (phase_in self.old.entries) ≡ false }
-        ensures none { MatchOption result (FoundNone self.old × (self.new ≡ self.old)) (λ e. self.new.held ≡ Some e) }
+        ensures none { MatchOption result (FoundNoRecord self.old × (self.new ≡ self.old))
+            (λ e. self.new.held ≡ Some e) }
         ensures first { MatchOption self.old.held (Unit {0}) (λ e. self.new ≡ self.old) }
         ensures same { self.new ≡ record self.old { held = self.new.held; taker = self.new.taker } }
         ensures ring { self.new.taker.ring ≡ self.old.taker.ring }
@@ -96,9 +115,10 @@ impl Intake {
         requires still { IsOpen self.old }
         requires held { self.old.held ≡ Some envelope }
         ensures seat { IsSameSeat seat.old seat.new × IsOutside seat.new }
-        ensures later { Continues (λ e. e.hand) (number seat.old) (seen_by seat.old) (seen_by seat.new) }
+        ensures later { Continues (λ e. e.hand) (number seat.old) (seen_by seat.old)
+            (seen_by seat.new) }
         ensures answer { IsTakenOrStalled hand self.old self.new seat.new envelope result }
-        ensures plan { plan_of self.new ≡ plan_of self.old }
+        ensures plan { plan_of_intake self.new ≡ plan_of_intake self.old }
         ensures adds { Adds maker_of hand self.old.entries self.new.entries }
     {
         let request = Request::from_bytes(&envelope.bytes);
@@ -141,7 +161,11 @@ fn take_in(
     requires limit { load_in ledger.old.entries < 64 }
     requires phase { phase_in ledger.old.entries ≡ Closed → ⊥ }
     ensures held { held.new ≡ None }
-    ensures ledger { ledger.new ≡ record ledger.old { entries = ledger.old.entries ++ Took hand envelope judged.now.verdict judged.now.waits judged.now.seen ∷ [] } }
+    ensures ledger { ledger.new
+        ≡ record ledger.old {
+          entries = ledger.old.entries
+              ++ Took hand envelope judged.now.verdict judged.now.waits judged.now.seen ∷ [];
+        } }
 {
     *held = None;
     ledger.take(hand, envelope, judged.verdict, judged.waits, judged.seen);
@@ -153,7 +177,7 @@ fn answer(
     pages: Option<Pages>,
     right: Option<CellSeat>,
 ) -> Admission
-    ensures { result ≡ answer_of verdict envelope pages right }
+    ensures { result ≡ admission_of verdict envelope pages right }
 {
     match verdict {
         Verdict::Accepted => Admission::Admitted {
@@ -169,7 +193,8 @@ fn answer(
     }
 }
 
-// A record that is a member is admitted to its group, and its right comes out; a lone one needs none.
+// A record that is a member is admitted to its group, and its right comes out; a lone one needs
+// none.
 fn admit_member(
     cells: &Cells,
     seat: &mut CellSeat,
@@ -180,8 +205,11 @@ fn admit_member(
     requires index { (next seat.old ≤ index) × (index < 4294967295) }
     requires room { IsFewerOut seat.old 64 }
     ensures seat { IsAdmitting cells.now seat.new × (back seat.new ≡ back seat.old) }
-    ensures busy { MatchResult result (λ _. Unit {0}) (λ _. (is_member r.now ≡ true) × (admitted seat.new ≡ admitted seat.old) × (next seat.new ≡ next seat.old) × IsBusy r.now.group (view_of seat.old)) }
-    ensures right { MatchResult result (λ right. IsMemberAdmitted cells.now seat.old seat.new r.now index right) (λ _. Unit {0}) }
+    ensures busy { MatchResult result (λ _. Unit {0}) (λ _.
+        (is_member r.now ≡ true) × (admitted seat.new ≡ admitted seat.old)
+        × (next seat.new ≡ next seat.old) × IsBusy r.now.group (view_of seat.old)) }
+    ensures right { MatchResult result
+        (λ right. IsMemberAdmitted cells.now seat.old seat.new r.now index right) (λ _. Unit {0}) }
 {
     if !r.is_grouped() || r.group > 7 {
         return Ok(None);

@@ -25,7 +25,8 @@ pub enum Phase {
 /// One event of a session's intake, with the hand that made it.
 #[derive(Clone, Copy, Drop)]
 pub enum IntakeEntry {
-    /// A record was taken. Its verdict was judged on the first `seen` entries of the buffer history.
+    /// A record was taken. Its verdict was judged on the first `seen` entries of the buffer
+    /// history.
     Took {
         hand: u32,
         envelope: Envelope,
@@ -34,7 +35,8 @@ pub enum IntakeEntry {
         waits: bool,
         seen: u64,
     },
-    /// A record ended. The answer that this made due, if it made one, is kept where it couldn't be handed on.
+    /// A record ended. The answer that this made due, if it made one, is kept where it couldn't be
+    /// handed on.
     Landed {
         hand: u32,
         index: u32,

@@ -1,14 +1,16 @@
 //! The state of one session's intake.
 ghost use Rattle.std.specs.Prelude.{◌≡◌, ◌≤◌, [], None, length, IfOk, IsTrue};
 ghost use Rattle.host_model.specs.Lists.{all_with_before};
-ghost use Rattle.host_group.specs.Seats.{IsAdmittingOf, IsNoneOut, seat_cells, admitted, back, next};
+ghost use Rattle.host_group.specs.Seats.{IsAdmittingOf, IsNoneOut, seat_cells, admitted, back};
+ghost use Rattle.host_group.specs.Seats.{next};
 ghost use Rattle.host_turn.specs.Seats.{IsOutside, own_entries};
 ghost use Rattle.host_intake.specs.declared.entry.Phase.TheVariants.{Closed};
 ghost use Rattle.host_intake.specs.Entries.{maker_of, takings};
 ghost use Rattle.host_intake.specs.Intaken.{IsIntake};
 ghost use Rattle.host_intake.specs.Ledgers.{is_taken_open};
-ghost use Rattle.host_intake.specs.State.{IsForAdmissions, plan_of};
-ghost use Rattle.host_intake.specs.Told.{flights_in, kept_slips, memory_front_in, phase_in, rows_in};
+ghost use Rattle.host_intake.specs.State.{IsForAdmissions, plan_of_intake};
+ghost use Rattle.host_intake.specs.Told.{flights_in, kept_slips, memory_front_in, phase_in};
+ghost use Rattle.host_intake.specs.Told.{rows_in};
 
 use crate::entry::{IntakeEntry, Phase};
 use crate::ledger::{LIMIT, Ledger};
@@ -23,9 +25,12 @@ use host_turn::{BookSeat, Story};
 use std::alloc::Global;
 use std::marker::Model;
 
-/// A session's state, for a book to hand round: its records are popped, judged and taken in order, and end with an answer that is handed on or kept.
+/// A session's state, for a book to hand round: its records are popped, judged and taken in order,
+/// and end with an answer that is handed on or kept.
 ///
-/// Contracts see the history, and what only the holder of the turn uses: the taker of the session's requests, the admissions' seat at the book of its buffers, and the admitting seat of its cells. No call but `new` takes memory.
+/// Contracts see the history, and what only the holder of the turn uses: the taker of the session's
+/// requests, the admissions' seat at the book of its buffers, and the admitting seat of its cells.
+/// No call but `new` takes memory.
 #[derive(Drop)]
 pub struct Intake {
     pub(crate) part: Range,
@@ -40,13 +45,13 @@ pub struct Intake {
 
 impl Model for Intake {
     ghost use Rattle.host_intake.specs.State.{IntakeState};
-    ghost use Rattle.host_intake.specs.IntakeFields.{intake_state, IsKept};
+    ghost use Rattle.host_intake.specs.IntakeFields.{intake_state, IsIntakeKept};
 
     ghost Value = { IntakeState };
 
     ghost view = { intake_state };
 
-    ghost invariant = { IsKept };
+    ghost invariant = { IsIntakeKept };
 }
 
 impl Story for Intake {
@@ -58,7 +63,7 @@ impl Story for Intake {
 
     ghost maker = { maker_of };
 
-    ghost fixed = { plan_of };
+    ghost fixed = { plan_of_intake };
 
     fn length(&self) -> u64 {
         self.ledger.length()
@@ -66,7 +71,8 @@ impl Story for Intake {
 }
 
 impl Intake {
-    /// An intake that has taken nothing, for at most `room` records, whose rows are kept or not. It has `Oom` for an answer only for want of memory.
+    /// An intake that has taken nothing, for at most `room` records, whose rows are kept or not. It
+    /// has `Oom` for an answer only for want of memory.
     pub fn new(
         alloc: Global,
         part: Range,
@@ -78,8 +84,10 @@ impl Intake {
         cell_seat: CellSeat,
     ) -> Result<Intake, Oom>
         requires taker { (taker.taken ≡ []) × (taker.records ≤ room) }
-        requires memory { IsOutside memory_seat × IsForAdmissions room memory_seat × (own_entries (λ e. e.hand) memory_seat ≡ []) }
-        requires cells { IsAdmittingOf (seat_cells cell_seat) cell_seat × (admitted cell_seat ≡ []) × (back cell_seat ≡ []) × (next cell_seat ≡ 0) }
+        requires memory { IsOutside memory_seat × IsForAdmissions room memory_seat
+            × (own_entries (λ e. e.hand) memory_seat ≡ []) }
+        requires cells { IsAdmittingOf (seat_cells cell_seat) cell_seat × (admitted cell_seat ≡ [])
+            × (back cell_seat ≡ []) × (next cell_seat ≡ 0) }
         ensures { IfOk result (λ s. s ≡ record {
           part = part;
           size = size;

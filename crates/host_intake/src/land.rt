@@ -1,9 +1,10 @@
 //! Records end, and answers that were kept are handed on.
-ghost use Rattle.std.specs.Prelude.{◌≡◌, ◌<◌, [], ◌∷◌, ◌++◌, true, false, length, remove, slice_get, position, IsSome, IsTrue, MatchOption};
+ghost use Rattle.std.specs.Prelude.{◌≡◌, ◌<◌, [], ◌∷◌, ◌++◌, true, false, length, remove};
+ghost use Rattle.std.specs.Prelude.{slice_get, position, IsSome, IsTrue, MatchOption};
 ghost use Rattle.std.specs.List.{list_any};
 ghost use Rattle.host_model.specs.Log.{request_at};
 ghost use Rattle.host_group.specs.Seats.{cells_id, seat_cells};
-ghost use Rattle.host_turn.specs.History.{Adds};
+ghost use Rattle.host_log.specs.History.{Adds};
 ghost use Rattle.host_intake.specs.declared.entry.IntakeEntry.TheVariants.{Landed, Passed};
 ghost use Rattle.host_intake.specs.Answers.{answer_owed};
 ghost use Rattle.host_intake.specs.Entries.{maker_of, requests_of, takings};
@@ -19,7 +20,8 @@ use host_group::{CellSeat, Cells};
 use host_rings::Slip;
 
 impl Intake {
-    /// A record ended so, and its right, if it is a member, was settled with that. The answer that this made due is kept where `kept` says so, unless the session was aborted.
+    /// A record ended so, and its right, if it is a member, was settled with that. The answer that
+    /// this made due is kept where `kept` says so, unless the session was aborted.
     pub fn landed(
         &mut self,
         hand: u32,
@@ -34,10 +36,18 @@ impl Intake {
         requires waits { list_any (is_waiting_at index) self.old.waiting ≡ false }
         requires hand { IsTrue (is_lander hand index (takings self.old.entries)) }
         requires cells { seat_cells self.old.cell_seat ≡ cells_id cells.now }
-        requires right { AreSettled (cells_id cells.now) (requests_of (takings self.old.entries)) index end right }
-        requires answer { answer ≡ answer_owed (request_at (requests_of (takings self.old.entries)) index) index end right }
+        requires right { AreSettled (cells_id cells.now) (requests_of (takings self.old.entries))
+            index end right }
+        requires answer { answer
+            ≡ answer_owed (request_at (requests_of (takings self.old.entries)) index) index end
+            right }
         requires kept { kept ≡ true → IsSome answer }
-        ensures entry { self.new ≡ record self.old { entries = self.old.entries ++ Landed hand index end answer kept ∷ []; cell_seat = self.new.cell_seat } }
+        ensures entry { self.new
+            ≡ record self.old {
+              entries = self.old.entries ++ Landed hand index end answer kept
+                  ∷ [];
+              cell_seat = self.new.cell_seat;
+            } }
         ensures seat { seat_cells self.new.cell_seat ≡ seat_cells self.old.cell_seat }
         ensures adds { Adds maker_of hand self.old.entries self.new.entries }
     {
@@ -57,13 +67,15 @@ impl Intake {
     /// The oldest answer kept was handed on.
     pub fn passed(&mut self, hand: u32)
         requires { 0 < length (kept_slips self.old.entries) }
-        ensures entry { self.new ≡ record self.old { entries = self.old.entries ++ Passed hand ∷ [] } }
+        ensures entry { self.new
+            ≡ record self.old { entries = self.old.entries ++ Passed hand ∷ [] } }
         ensures adds { Adds maker_of hand self.old.entries self.new.entries }
     {
         self.ledger.pass(hand);
     }
 
-    /// Takes the close of that record, if it waits. Whoever takes it settles it, hands its answer on, if there is one, and tells that it landed, within the same turn.
+    /// Takes the close of that record, if it waits. Whoever takes it settles it, hands its answer
+    /// on, if there is one, and tells that it landed, within the same turn.
     pub fn waiting(&mut self, index: u32) -> Option<Waiting>
         ensures { MatchOption result
             ((list_any (is_waiting_at index) self.old.waiting ≡ false) × (self.new ≡ self.old))

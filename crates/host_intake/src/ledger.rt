@@ -1,12 +1,15 @@
 //! The history of an intake, with what it tells kept beside it.
-ghost use Rattle.std.specs.Prelude.{◌≡◌, ◌+◌, ◌<◌, ◌≤◌, [], ◌∷◌, ◌++◌, true, false, if◌then◌else◌, length, slice_get, is_some, None, Some, IfOk, IfSome, IsTrue};
+ghost use Rattle.std.specs.Prelude.{◌≡◌, ◌+◌, ◌<◌, ◌≤◌, [], ◌∷◌, ◌++◌, true, false, if◌then◌else◌};
+ghost use Rattle.std.specs.Prelude.{length, slice_get, is_some, None, Some, IfOk, IfSome, IsTrue};
 ghost use Rattle.std.specs.VecDeque.{deque_capacity, deque_len};
-ghost use Rattle.host_intake.specs.declared.entry.IntakeEntry.TheVariants.{Took, Landed, Passed, Turned};
+ghost use Rattle.host_intake.specs.declared.entry.IntakeEntry.TheVariants.{Took, Landed, Passed};
+ghost use Rattle.host_intake.specs.declared.entry.IntakeEntry.TheVariants.{Turned};
 ghost use Rattle.host_intake.specs.declared.entry.Phase.TheVariants.{Aborted, Closed};
 ghost use Rattle.host_intake.specs.Entries.{takings};
 ghost use Rattle.host_intake.specs.Ledgers.{is_course, is_taken_open, slips_to_keep};
 ghost use Rattle.host_model.specs.Lists.{all_with_before};
-ghost use Rattle.host_intake.specs.Told.{is_aborted, phase_in, turns, flights_in, kept_slips, is_flying, memory_front_in, rows_in};
+ghost use Rattle.host_intake.specs.Told.{is_aborted_phase, phase_in, turns, flights_in, kept_slips};
+ghost use Rattle.host_intake.specs.Told.{is_flying, memory_front_in, rows_in};
 
 use crate::entry::{IntakeEntry, Phase, RecordEnd};
 use crate::rows::{Rows, push_row, settle_row};
@@ -22,7 +25,8 @@ use std::marker::Model;
 /// As many records may be in flight, or answers kept, at once.
 pub(crate) const LIMIT: u32 = 64;
 
-/// The history, the phase, the numbers of records in flight and taken, the answers kept, and the rows where they are kept.
+/// The history, the phase, the numbers of records in flight and taken, the answers kept, and the
+/// rows where they are kept.
 #[derive(Drop)]
 pub(crate) struct Ledger {
     room: u32,
@@ -43,9 +47,13 @@ impl Model for Ledger {
 
     ghost Value = { LedgerState };
 
-    ghost view = { λ a. record { room = a.room; keeps = is_some a.rows; entries = a.entries.items } };
+    ghost view = { λ a.
+        record { room = a.room; keeps = is_some a.rows; entries = a.entries.items } };
 
-    ghost invariant = { λ a. IsLedger a.room a.entries a.phase a.flights a.kept.items a.memory_front × AreRows a.room a.entries.items a.taken a.rows × (64 ≤ deque_capacity a.kept) × (a.room < 4294967296) };
+    ghost invariant = { λ a.
+        IsLedger a.room a.entries a.phase a.flights a.kept.items a.memory_front
+        × AreRows a.room a.entries.items a.taken a.rows × (64 ≤ deque_capacity a.kept)
+        × (a.room < 4294967296) };
 }
 
 impl Ledger {
@@ -102,8 +110,10 @@ impl Ledger {
 
     /// Whether as many records are in flight, or answers kept, as there may be.
     pub(crate) fn is_full(&self) -> bool
-        ensures full { result ≡ true → flights_in self.now.entries + length (kept_slips self.now.entries) ≡ 64 }
-        ensures room { result ≡ false → flights_in self.now.entries + length (kept_slips self.now.entries) < 64 }
+        ensures full { result ≡ true
+            → flights_in self.now.entries + length (kept_slips self.now.entries) ≡ 64 }
+        ensures room { result ≡ false
+            → flights_in self.now.entries + length (kept_slips self.now.entries) < 64 }
     {
         self.flights + self.kept.len() as u32 >= LIMIT
     }
@@ -134,7 +144,9 @@ impl Ledger {
         requires room { length (takings self.old.entries) < self.old.room }
         requires limit { flights_in self.old.entries + length (kept_slips self.old.entries) < 64 }
         requires phase { phase_in self.old.entries ≡ Closed → ⊥ }
-        ensures { self.new ≡ record self.old { entries = self.old.entries ++ Took hand envelope verdict waits seen ∷ [] } }
+        ensures { self.new
+            ≡ record self.old
+            { entries = self.old.entries ++ Took hand envelope verdict waits seen ∷ [] } }
     {
         self.flights += 1;
         self.memory_front = self.memory_front.max(seen);
@@ -163,7 +175,9 @@ impl Ledger {
         kept: bool,
     )
         requires { IsTrue (is_flying index self.old.entries) }
-        ensures entry { self.new ≡ record self.old { entries = self.old.entries ++ Landed hand index end answer kept ∷ [] } }
+        ensures entry { self.new
+            ≡ record self.old
+            { entries = self.old.entries ++ Landed hand index end answer kept ∷ [] } }
         ensures limit { flights_in self.new.entries + length (kept_slips self.new.entries) ≤ 64 }
     {
         self.flights -= 1;
@@ -191,8 +205,9 @@ impl Ledger {
     pub(crate) fn turn(&mut self, hand: u32, phase: Phase)
         requires course { IsTrue (is_course (turns self.old.entries ++ phase ∷ [])) }
         requires over { phase ≡ Closed → flights_in self.old.entries ≡ 0 }
-        requires other { is_aborted phase ≡ false }
-        ensures { self.new ≡ record self.old { entries = self.old.entries ++ Turned hand phase ∷ [] } }
+        requires other { is_aborted_phase phase ≡ false }
+        ensures { self.new
+            ≡ record self.old { entries = self.old.entries ++ Turned hand phase ∷ [] } }
     {
         self.phase = phase;
         self.entries.push(IntakeEntry::Turned { hand, phase });
@@ -201,7 +216,8 @@ impl Ledger {
     /// The session is aborted, and the answers kept are dropped.
     pub(crate) fn abort(&mut self, hand: u32)
         requires { IsTrue (is_course (turns self.old.entries ++ Aborted ∷ [])) }
-        ensures { self.new ≡ record self.old { entries = self.old.entries ++ Turned hand Aborted ∷ [] } }
+        ensures { self.new
+            ≡ record self.old { entries = self.old.entries ++ Turned hand Aborted ∷ [] } }
     {
         self.phase = Phase::Aborted;
         self.kept.clear();
@@ -239,7 +255,8 @@ impl Listing for Ledger {
 }
 
 fn new_rows(alloc: Global, room: u32, keeps: bool) -> Result<Option<Rows>, Oom>
-    ensures { IfOk result (λ rows. rows ≡ (if keeps then Some (record { items = []; room = room }) else None)) }
+    ensures { IfOk result
+        (λ rows. rows ≡ (if keeps then Some (record { items = []; room = room }) else None)) }
 {
     if !keeps {
         return Ok(None);

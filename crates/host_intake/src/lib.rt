@@ -1,4 +1,5 @@
-//! The intake of one session: records are popped, judged and taken in order, and end with an answer that is handed on or kept.
+//! The intake of one session: records are popped, judged and taken in order, and end with an answer
+//! that is handed on or kept.
 #![tactic(auto)]
 
 mod admission;

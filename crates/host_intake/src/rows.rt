@@ -1,7 +1,8 @@
 //! The rows of the records taken, where they are kept.
-ghost use Rattle.std.specs.Prelude.{◌≡◌, ◌<◌, ◌≤◌, [], ◌∷◌, ◌++◌, length, None, Some, IfOk, IfSome, IsSomeAnd, MatchOption};
+ghost use Rattle.std.specs.Prelude.{◌≡◌, ◌<◌, ◌≤◌, [], ◌∷◌, ◌++◌, length, None, Some, IfOk, IfSome};
+ghost use Rattle.std.specs.Prelude.{IsSomeAnd, MatchOption};
 ghost use Rattle.host_block.specs.Room.{WithRoom};
-ghost use Rattle.host_intake.specs.Rows.{IsSettled, and_row};
+ghost use Rattle.host_intake.specs.Rows.{IsRowSettled, and_row};
 
 use host_block::Oom;
 use host_model::{TakenRow, TakenRows};
@@ -9,7 +10,8 @@ use host_record::Status;
 use std::alloc::Global;
 use std::marker::Model;
 
-/// The rows by their index, and room for them at the end, since rows that are given away can't be written in place.
+/// The rows by their index, and room for them at the end, since rows that are given away can't be
+/// written in place.
 #[derive(Drop)]
 pub(crate) struct Rows {
     rows: Vec<TakenRow>,
@@ -49,7 +51,7 @@ impl Rows {
 
     fn settle(&mut self, index: u32, outcome: Status)
         requires { index < length self.old.items }
-        ensures { IsSettled index outcome self.old self.new }
+        ensures { IsRowSettled index outcome self.old self.new }
     {
         self.rows[index as usize].outcome = outcome;
     }
@@ -77,7 +79,8 @@ pub(crate) fn push_row(rows: &mut Option<Rows>, row: TakenRow)
 /// A record ended: where rows are kept, its row has this outcome.
 pub(crate) fn settle_row(rows: &mut Option<Rows>, index: u32, outcome: Status)
     requires { IfSome rows.old (λ r. index < length r.items) }
-    ensures { MatchOption rows.old (rows.new ≡ None) (λ r. IsSomeAnd rows.new (λ settled. IsSettled index outcome r settled)) }
+    ensures { MatchOption rows.old (rows.new ≡ None)
+        (λ r. IsSomeAnd rows.new (λ settled. IsRowSettled index outcome r settled)) }
 {
     if let Some(kept) = rows {
         kept.settle(index, outcome);

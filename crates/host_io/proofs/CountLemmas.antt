@@ -1,8 +1,6 @@
 -- Calls that only read, one after another.
 use Rattle.std.proofs.Common.{◌∙◌, Bool, Result, arith}
-use Rattle.host_io.specs.Disks.{Calls, OnlyReads, read_counted}
-use Rattle.host_io.specs.declared.counts.Counts.{Counts}
-use Rattle.host_io.specs.declared.disk.DiskError.{DiskError}
+use Rattle.host_io.specs.{Calls, OnlyReads, read_counted, Counts, DiskError}
 
 pub one_more_read : {T : Type 0} (first before now : Counts) (never still last : Bool) (result : Result T DiskError) → OnlyReads first before never still
     → Calls before (read_counted before) now still last result → OnlyReads first now never last

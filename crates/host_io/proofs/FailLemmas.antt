@@ -2,12 +2,8 @@
 use Rattle.std.proofs.Common.{◌≡◌, ℕ, ◌+◌, ◌<◌, Bool, true, List, length, drop, get_or, sym, ◌∙◌, ap, subst, Option, Some, Err, rules, min, eq-eqb}
 use Rattle.std.specs.Prelude.{if◌then◌else◌, ◌==◌, ◌&&◌, ◌↔◌, IsTrue, Contains}
 use Rattle.std.proofs.lemmas.List.{drop_more}
-use Rattle.host_block.specs.Disk.{DiskState, part_synced}
-use Rattle.host_io.specs.MemDisk.{SyncsAsListed}
-use Rattle.host_io.specs.declared.disk.DiskError.TheVariants.{Failed}
-use Rattle.host_io.specs.Fails.{kind_number, names_call, part_listed}
-use Rattle.host_io.specs.declared.fails.CallKind.{CallKind}
-use Rattle.host_io.specs.declared.fails.FailAt.{FailAt}
+use Rattle.host_block.specs.{DiskState, part_synced}
+use Rattle.host_io.specs.{SyncsAsListed, Failed, kind_number, names_call, part_listed, CallKind, FailAt}
 
 is_named : (f : FailAt) (kind : CallKind) (nr : ℕ) → f.kind ≡ kind → f.nr ≡ nr → names_call f kind nr ≡ true
 is_named f kind nr same_kind same_nr =

@@ -5,12 +5,10 @@ use Rattle.std.proofs.lemmas.Nat.{mul-le}
 use Rattle.std.proofs.lemmas.List.{drop_more, get_or-set_same, get_or-set_other, take_at, drop_at, drop-drop, take-take, drop-take, take-map, drop-map, length-take-le, take-append-drop}
 use Rattle.std.proofs.lemmas.Slice.{drop-append-drop}
 use Rattle.std.proofs.lemmas.List.Elements.{All-head, All-tail, All-take}
-use Rattle.host_block.specs.Disk.{DiskState, picked, block_at, settled, overwritten, read_of, fresh, synced, part_synced}
+use Rattle.host_block.specs.{DiskState, picked, block_at, settled, overwritten, read_of, fresh, synced, part_synced}
 use Rattle.host_block.proofs.DiskLemmas.{put_here, put_elsewhere, length-picked}
 use Rattle.std.proofs.lemmas.Bool.{cases_eq}
-use Rattle.host_io.specs.Flat.{cut, image_of, put_at, put_all}
-use Rattle.host_io.specs.FlatShape.{block_fits, block_at-cut, length-cut, cut_of_size}
-use Rattle.host_io.specs.Waiting.{pairs_of, IsFitting}
+use Rattle.host_io.specs.{cut, image_of, put_at, put_all, block_fits, block_at-cut, length-cut, cut_of_size, pairs_of, IsFitting}
 use Rattle.host_io.specs.declared.flat.Waiting.{Waiting}
 
 pub length-put_at : (size : ℕ) (bytes : List ℕ) (w : ℕ × List ℕ) → w.0 * size + size ≤ length bytes → length w.1 ≡ size → length (put_at size bytes w) ≡ length bytes

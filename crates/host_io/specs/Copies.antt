@@ -5,8 +5,8 @@ use Prim.Native.Nat.{zero, suc}
 use Rattle.host_block.specs.Disk.{DiskState, read_of}
 
 -- the bytes of these blocks, in order
-abbrev pub joined : List (List ℕ) → List ℕ
-joined image = flat_map (λ block. block) image
+abbrev pub joined_blocks : List (List ℕ) → List ℕ
+joined_blocks image = flat_map (λ block. block) image
 
 -- the bytes that reads of the first n blocks give, in order
 abbrev pub bytes_of : DiskState → ℕ → List ℕ

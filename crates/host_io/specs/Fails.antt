@@ -15,7 +15,8 @@ kind_number Sync = 3
 abbrev pub names_call : FailAt → CallKind → ℕ → Bool
 names_call f kind nr = (kind_number f.kind == kind_number kind) && (f.nr == nr)
 
--- how much is done of a call, where the list names it as one that fails; of several entries the first counts
+-- how much is done of a call, where the list names it as one that fails; of several entries the
+-- first counts
 abbrev pub part_listed : List FailAt → CallKind → ℕ → Option ℕ
 part_listed [] kind nr = None
 part_listed (f ∷ fs) kind nr = if names_call f kind nr then Some f.part else part_listed fs kind nr

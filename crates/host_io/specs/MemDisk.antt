@@ -1,5 +1,7 @@
 -- What a disk in memory tells, and where it fails.
-use Rattle.std.specs.Prelude.{◌≡◌, ◌↔◌, ◌==◌, ℕ, Bool, true, false, if◌then◌else◌, ◌*◌, List, [], length, drop, min, Option, Result, Ok, Err, IsOk, OnErr, IsErr, IsErrOf, IsSome, IsNone, unwrap_or}
+use Rattle.std.specs.Prelude.{◌≡◌, ◌↔◌, ◌==◌, ℕ, Bool, true, false, if◌then◌else◌, ◌*◌, List, []}
+use Rattle.std.specs.Prelude.{length, drop, min, Option, Result, Ok, Err, IsOk, OnErr, IsErr}
+use Rattle.std.specs.Prelude.{IsErrOf, IsSome, IsNone, unwrap_or}
 use Rattle.host_block.specs.Disk.{DiskState, added, part_synced}
 use Rattle.host_io.specs.Causes.{next_count}
 use Rattle.host_io.specs.Disks.{Shape, no_counts}
@@ -28,10 +30,18 @@ abbrev pub image_held : MemDisk → List ℕ → ℕ → List (List ℕ)
 image_held d name size = image_of size (held_by d)
 
 abbrev pub shape_of : MemDisk → Shape
-shape_of d = record { tells = true; attached = d.attached; writable = d.writable; blocks = d.blocks; size = d.size }
+shape_of d =
+    record {
+      tells = true;
+      attached = d.attached;
+      writable = d.writable;
+      blocks = d.blocks;
+      size = d.size;
+    }
 
 abbrev pub state_of : MemDisk → DiskState
-state_of d = record { durable = cut d.size d.blocks d.bytes.items; pending = pairs_of d.waiting.items }
+state_of d =
+    record { durable = cut d.size d.blocks d.bytes.items; pending = pairs_of d.waiting.items }
 
 abbrev pub counts_of : MemDisk → Counts
 counts_of d = d.counts
@@ -49,7 +59,7 @@ abbrev pub never_fails_of : MemDisk → Bool
 never_fails_of d = length (fails_of d) == 0
 
 -- a disk of these bytes and this list of failing calls that no call has touched yet
-pub record IsMadeOf (bytes : List ℕ) (fails : List FailAt) (d : MemDisk) : Type 0 where
+pub record IsDiskMadeOf (bytes : List ℕ) (fails : List FailAt) (d : MemDisk) : Type 0 where
   pub opening : opening_of d ≡ bytes
   pub held : held_by d ≡ bytes
   pub not_attached : (shape_of d).attached ≡ false
@@ -74,13 +84,17 @@ part_written s b bytes part = if part == 0 then s else added s b bytes
 abbrev pub FailsAsListed : {T : Type 0} → Option ℕ → Result T DiskError → Type 0
 FailsAsListed {T} listed result = IsErr result ↔ IsSome listed
 
--- A write fails only where it is listed, and succeeds only where it isn't; a fault does the listed part of it.
-pub record WritesAsListed (listed : Option ℕ) (old new : DiskState) (b : ℕ) (bytes : List ℕ) (result : Result Unit DiskError) : Type 0 where
+-- A write fails only where it is listed, and succeeds only where it isn't; a fault does the listed
+-- part of it.
+pub record WritesAsListed (listed : Option ℕ) (old new : DiskState) (b : ℕ) (bytes : List ℕ)
+    (result : Result Unit DiskError) : Type 0 where
   pub success : IsOk result → IsNone listed
   pub fault : IsErrOf result Failed → IsSome listed
   pub part : IsErrOf result Failed → new ≡ part_written old b bytes (unwrap_or listed 0)
 
--- A sync fails exactly where it is listed, and then makes the listed number of writes durable, or all where they are fewer.
-pub record SyncsAsListed (listed : Option ℕ) (old new : DiskState) (result : Result Unit DiskError) : Type 0 where
+-- A sync fails exactly where it is listed, and then makes the listed number of writes durable, or
+-- all where they are fewer.
+pub record SyncsAsListed (listed : Option ℕ) (old new : DiskState) (result : Result Unit DiskError)
+    : Type 0 where
   pub fails : IsErr result ↔ IsSome listed
   pub part : OnErr result (new ≡ part_synced old (min (unwrap_or listed 0) (length old.pending)))

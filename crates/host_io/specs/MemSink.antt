@@ -23,7 +23,7 @@ abbrev pub sink_calls : MemSink → ℕ
 sink_calls s = s.calls
 
 -- an empty sink with this room and this list of failing calls that no call has touched yet
-pub record IsMadeOf (room : ℕ) (fails : List ℕ) (s : MemSink) : Type 0 where
+pub record IsSinkMadeOf (room : ℕ) (fails : List ℕ) (s : MemSink) : Type 0 where
   pub appended : sink_appended s ≡ []
   pub fits : sink_room s ≡ room
   pub listed : sink_fails s ≡ fails
@@ -32,4 +32,5 @@ pub record IsMadeOf (room : ℕ) (fails : List ℕ) (s : MemSink) : Type 0 where
 
 -- the next call with this piece fails: it is listed, or nothing fits of a piece that isn't empty
 abbrev pub FailsToPut : MemSink → List ℕ → Type 0
-FailsToPut s from = Contains (sink_fails s) (next_count (sink_calls s)) ⊎ ((sink_room s ≡ 0) × (0 < length from))
+FailsToPut s from =
+    Contains (sink_fails s) (next_count (sink_calls s)) ⊎ ((sink_room s ≡ 0) × (0 < length from))

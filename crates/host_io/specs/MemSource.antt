@@ -18,7 +18,7 @@ abbrev pub source_calls : MemSource → ℕ
 source_calls s = s.calls
 
 -- a source of these bytes and this list of failing calls that no call has touched yet
-pub record IsMadeOf (bytes fails : List ℕ) (s : MemSource) : Type 0 where
+pub record IsSourceMadeOf (bytes fails : List ℕ) (s : MemSource) : Type 0 where
   pub left : source_left s ≡ bytes
   pub listed : source_fails s ≡ fails
   pub calls : source_calls s ≡ 0

@@ -10,7 +10,8 @@ use crate::{Disk, DiskError};
 use host_block::BlockSize;
 use std::alloc::Global;
 
-/// The bytes of all blocks of an attached disk, in order. Their memory is taken in one step, with one block more.
+/// The bytes of all blocks of an attached disk, in order. Their memory is taken in one step, with
+/// one block more.
 pub fn copy_image<D: Disk>(
     alloc: Global,
     disk: &mut D,
@@ -19,13 +20,16 @@ pub fn copy_image<D: Disk>(
 ) -> Result<Vec<u8>, DiskError>
     requires blocks { blocks ≡ (D.shape disk.old).blocks }
     requires size { size ≡ (D.shape disk.old).size }
-    ensures fault { IsErrOf result Failed → Rose (D.counts disk.old).faults (D.counts disk.new).faults }
+    ensures fault { IsErrOf result Failed
+        → Rose (D.counts disk.old).faults (D.counts disk.new).faults }
     ensures shape { D.shape disk.new ≡ D.shape disk.old }
     ensures state { D.state disk.new ≡ D.state disk.old }
     ensures opening { D.opening disk.new ≡ D.opening disk.old }
-    ensures counts { OnlyReads (D.counts disk.old) (D.counts disk.new) (D.never_fails disk.old) (D.never_fails disk.new) }
+    ensures counts { OnlyReads (D.counts disk.old) (D.counts disk.new) (D.never_fails disk.old)
+        (D.never_fails disk.new) }
     ensures length { IfOk result (λ all. length all.items ≡ blocks * size) }
-    ensures bytes { IsTrue (D.shape disk.old).tells → IfOk result (λ all. all.items ≡ bytes_of (D.state disk.old) blocks) }
+    ensures bytes { IsTrue (D.shape disk.old).tells
+        → IfOk result (λ all. all.items ≡ bytes_of (D.state disk.old) blocks) }
 {
     let width = size.bytes();
     let Some(total) = blocks.checked_mul(width as u64) else {
@@ -50,13 +54,16 @@ fn read_blocks<D: Disk>(
     requires blocks { blocks ≡ (D.shape disk.old).blocks }
     requires piece { length block.old ≡ (D.shape disk.old).size }
     requires empty { all.items ≡ [] }
-    ensures fault { IsErrOf result Failed → Rose (D.counts disk.old).faults (D.counts disk.new).faults }
+    ensures fault { IsErrOf result Failed
+        → Rose (D.counts disk.old).faults (D.counts disk.new).faults }
     ensures shape { D.shape disk.new ≡ D.shape disk.old }
     ensures state { D.state disk.new ≡ D.state disk.old }
     ensures opening { D.opening disk.new ≡ D.opening disk.old }
-    ensures counts { OnlyReads (D.counts disk.old) (D.counts disk.new) (D.never_fails disk.old) (D.never_fails disk.new) }
+    ensures counts { OnlyReads (D.counts disk.old) (D.counts disk.new) (D.never_fails disk.old)
+        (D.never_fails disk.new) }
     ensures length { IfOk result (λ all. length all.items ≡ blocks * (D.shape disk.old).size) }
-    ensures bytes { IsTrue (D.shape disk.old).tells → IfOk result (λ all. all.items ≡ bytes_of (D.state disk.old) blocks) }
+    ensures bytes { IsTrue (D.shape disk.old).tells
+        → IfOk result (λ all. all.items ≡ bytes_of (D.state disk.old) blocks) }
 {
     for b in 0..blocks {
         disk.read_block(b, block)?;

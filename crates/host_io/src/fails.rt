@@ -11,7 +11,8 @@ pub enum CallKind {
     Sync,
 }
 
-/// A call that fails: its kind, its number from 1 among those of its kind, and how much of it is done.
+/// A call that fails: its kind, its number from 1 among those of its kind, and how much of it is
+/// done.
 #[derive(Clone, Copy, Debug, PartialEq, Eq)]
 pub struct FailAt {
     pub kind: CallKind,

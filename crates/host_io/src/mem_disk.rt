@@ -31,11 +31,12 @@ impl MemDisk {
     ghost use Rattle.std.specs.Prelude.{◌≡◌, ◌*◌, IsTrue, IfOk, [], drop};
     ghost use Rattle.host_block.specs.Disk.{IsPicked};
     ghost use Rattle.host_io.specs.Flat.{image_of};
-    ghost use Rattle.host_io.specs.MemDisk.{opening_of, counts_of, shape_of, state_of, rest_of, IsMadeOf};
+    ghost use Rattle.host_io.specs.MemDisk.{opening_of, counts_of, shape_of, state_of, rest_of};
+    ghost use Rattle.host_io.specs.MemDisk.{IsDiskMadeOf};
 
     /// A disk that holds these bytes under any name, and fails at the listed calls.
     pub fn new(alloc: Global, bytes: Vec<u8>, fails: Vec<FailAt>) -> MemDisk
-        ensures { IsMadeOf bytes.items fails.items result }
+        ensures { IsDiskMadeOf bytes.items fails.items result }
     {
         MemDisk {
             alloc,
@@ -63,12 +64,18 @@ impl MemDisk {
         self.counts
     }
 
-    /// A disk as a crash may leave it, which never fails. Block b gets its durable bytes where `picks[b]` is 0 or absent,
-    /// else the bytes of that pending write to it, counted from 1, or of the last where they are fewer.
+    /// A disk as a crash may leave it, which never fails. Block b gets its durable bytes where
+    /// `picks[b]` is 0 or absent, else the bytes of that pending write to it, counted from 1, or of
+    /// the last where they are fewer.
     pub fn crash(&self, picks: &[u32]) -> Result<MemDisk, Oom>
-        ensures made { IfOk result (λ d. IsMadeOf (opening_of d) [] d) }
-        ensures rest { IfOk result (λ d. drop ((shape_of self.now).blocks * (shape_of self.now).size) (opening_of d) ≡ rest_of self.now) }
-        ensures left { IsTrue (shape_of self.now).attached → IfOk result (λ d. IsPicked (state_of self.now) picks.now (image_of (shape_of self.now).size (opening_of d))) }
+        ensures made { IfOk result (λ d. IsDiskMadeOf (opening_of d) [] d) }
+        ensures rest { IfOk result (λ d.
+            drop ((shape_of self.now).blocks * (shape_of self.now).size) (opening_of d)
+            ≡ rest_of self.now) }
+        ensures left { IsTrue (shape_of self.now).attached
+            → IfOk result (λ d.
+            IsPicked (state_of self.now) picks.now
+            (image_of (shape_of self.now).size (opening_of d))) }
     {
         let mut bytes = match self.bytes.to_vec(self.alloc) {
             Ok(bytes) => bytes,
@@ -93,10 +100,14 @@ impl Disk for MemDisk {
     ghost use Rattle.std.specs.Prelude.{◌≡◌, ◌<◌, true, length, OnErr, IsErrOf};
     ghost use Rattle.host_block.specs.Disk.{Leads, write, sync};
     ghost use Rattle.host_io.specs.Causes.{next_count};
-    ghost use Rattle.host_io.specs.Disks.{Calls, read_counted, write_counted, sync_counted, outcome_of, Attaches, Reads};
+    ghost use Rattle.host_io.specs.Disks.{Calls, read_counted, write_counted, sync_counted};
+    ghost use Rattle.host_io.specs.Disks.{call_outcome, Attaches, Reads};
     ghost use Rattle.host_io.specs.Fails.{part_listed};
     ghost use Rattle.host_io.specs.FlatShape.{cut_of_size};
-    ghost use Rattle.host_io.specs.MemDisk.{opening_of, counts_of, shape_of, state_of, image_held, held_by, rest_of, never_fails_of, fails_of, attaches_of, faults_counted, FailsAsListed, WritesAsListed, SyncsAsListed};
+    ghost use Rattle.host_io.specs.MemDisk.{opening_of, counts_of, shape_of, state_of, image_held};
+    ghost use Rattle.host_io.specs.MemDisk.{held_by, rest_of, never_fails_of, fails_of};
+    ghost use Rattle.host_io.specs.MemDisk.{attaches_of, faults_counted, FailsAsListed};
+    ghost use Rattle.host_io.specs.MemDisk.{WritesAsListed, SyncsAsListed};
     ghost use Rattle.host_io.specs.declared.disk.DiskError.TheVariants as error;
     ghost use Rattle.host_io.specs.declared.fails.CallKind.TheVariants as kind;
 
@@ -112,16 +123,22 @@ impl Disk for MemDisk {
 
     ghost never_fails = { never_fails_of };
 
-    ghost of_size = { λ d told. cut_of_size d.blocks d.size d.bytes.items d.waiting.items d.whole d.fitting };
+    ghost of_size = { λ d told.
+        cut_of_size d.blocks d.size d.bytes.items d.waiting.items d.whole d.fitting };
 
     fn attach_image(&mut self, _name: &str, size: BlockSize, writes: bool) -> Result<u64, DiskError>
-        ensures attaches { Attaches size writes (image_held self.old _name.now size) (shape_of self.old) (shape_of self.new) (state_of self.new) result }
+        ensures attaches { Attaches size writes (image_held self.old _name.now size)
+            (shape_of self.old) (shape_of self.new) (state_of self.new) result }
         ensures opening { opening_of self.new ≡ opening_of self.old }
         ensures named { IsErrOf result error.Oom → image_held self.new ≡ image_held self.old }
-        ensures calls { Calls (counts_of self.old) (counts_of self.old) (counts_of self.new) (never_fails_of self.old) (never_fails_of self.new) result }
+        ensures calls { Calls (counts_of self.old) (counts_of self.old) (counts_of self.new)
+            (never_fails_of self.old) (never_fails_of self.new) result }
         // What no disk owes but this one.
-        ensures fails { FailsAsListed (part_listed (fails_of self.old) kind.Attach (next_count (attaches_of self.old))) result }
-        ensures faults { (counts_of self.new).faults ≡ faults_counted result (counts_of self.old).faults }
+        ensures fails { FailsAsListed
+            (part_listed (fails_of self.old) kind.Attach (next_count (attaches_of self.old)))
+            result }
+        ensures faults { (counts_of self.new).faults
+            ≡ faults_counted result (counts_of self.old).faults }
         ensures listed { fails_of self.new ≡ fails_of self.old }
         ensures attempts { attaches_of self.new ≡ next_count (attaches_of self.old) }
         ensures held { held_by self.new ≡ held_by self.old }
@@ -150,10 +167,14 @@ impl Disk for MemDisk {
         ensures opening { opening_of self.new ≡ opening_of self.old }
         ensures bytes { Reads true (state_of self.old) b into.new result }
         ensures named { image_held self.new ≡ image_held self.old }
-        ensures calls { Calls (counts_of self.old) (read_counted (counts_of self.old)) (counts_of self.new) (never_fails_of self.old) (never_fails_of self.new) result }
+        ensures calls { Calls (counts_of self.old) (read_counted (counts_of self.old))
+            (counts_of self.new) (never_fails_of self.old) (never_fails_of self.new) result }
         // What no disk owes but this one.
-        ensures fails { FailsAsListed (part_listed (fails_of self.old) kind.Read (next_count (counts_of self.old).reads)) result }
-        ensures faults { (counts_of self.new).faults ≡ faults_counted result (counts_of self.old).faults }
+        ensures fails { FailsAsListed
+            (part_listed (fails_of self.old) kind.Read (next_count (counts_of self.old).reads))
+            result }
+        ensures faults { (counts_of self.new).faults
+            ≡ faults_counted result (counts_of self.old).faults }
         ensures listed { fails_of self.new ≡ fails_of self.old }
         ensures attempts { attaches_of self.new ≡ attaches_of self.old }
         ensures rest { rest_of self.new ≡ rest_of self.old }
@@ -172,13 +193,18 @@ impl Disk for MemDisk {
         requires block { b < (shape_of self.old).blocks }
         requires piece { length from.now ≡ (shape_of self.old).size }
         ensures shape { shape_of self.new ≡ shape_of self.old }
-        ensures state { Leads (write b from.now (outcome_of result)) (state_of self.old) (state_of self.new) }
+        ensures state { Leads (write b from.now (call_outcome result)) (state_of self.old)
+            (state_of self.new) }
         ensures opening { opening_of self.new ≡ opening_of self.old }
         ensures named { IsErrOf result error.Oom → image_held self.new ≡ image_held self.old }
-        ensures calls { Calls (counts_of self.old) (write_counted (counts_of self.old)) (counts_of self.new) (never_fails_of self.old) (never_fails_of self.new) result }
+        ensures calls { Calls (counts_of self.old) (write_counted (counts_of self.old))
+            (counts_of self.new) (never_fails_of self.old) (never_fails_of self.new) result }
         // What no disk owes but this one.
-        ensures fails { WritesAsListed (part_listed (fails_of self.old) kind.Write (next_count (counts_of self.old).writes)) (state_of self.old) (state_of self.new) b from.now result }
-        ensures faults { (counts_of self.new).faults ≡ faults_counted result (counts_of self.old).faults }
+        ensures fails { WritesAsListed (part_listed (fails_of self.old) kind.Write
+            (next_count (counts_of self.old).writes)) (state_of self.old) (state_of self.new) b
+            from.now result }
+        ensures faults { (counts_of self.new).faults
+            ≡ faults_counted result (counts_of self.old).faults }
         ensures listed { fails_of self.new ≡ fails_of self.old }
         ensures attempts { attaches_of self.new ≡ attaches_of self.old }
         ensures rest { rest_of self.new ≡ rest_of self.old }
@@ -197,13 +223,17 @@ impl Disk for MemDisk {
 
     fn sync(&mut self) -> Result<(), DiskError>
         ensures shape { shape_of self.new ≡ shape_of self.old }
-        ensures state { Leads (sync (outcome_of result)) (state_of self.old) (state_of self.new) }
+        ensures state { Leads (sync (call_outcome result)) (state_of self.old) (state_of self.new) }
         ensures opening { opening_of self.new ≡ opening_of self.old }
         ensures named { IsErrOf result error.Oom → image_held self.new ≡ image_held self.old }
-        ensures calls { Calls (counts_of self.old) (sync_counted (counts_of self.old)) (counts_of self.new) (never_fails_of self.old) (never_fails_of self.new) result }
+        ensures calls { Calls (counts_of self.old) (sync_counted (counts_of self.old))
+            (counts_of self.new) (never_fails_of self.old) (never_fails_of self.new) result }
         // What no disk owes but this one.
-        ensures fails { SyncsAsListed (part_listed (fails_of self.old) kind.Sync (next_count (counts_of self.old).syncs)) (state_of self.old) (state_of self.new) result }
-        ensures faults { (counts_of self.new).faults ≡ faults_counted result (counts_of self.old).faults }
+        ensures fails { SyncsAsListed
+            (part_listed (fails_of self.old) kind.Sync (next_count (counts_of self.old).syncs))
+            (state_of self.old) (state_of self.new) result }
+        ensures faults { (counts_of self.new).faults
+            ≡ faults_counted result (counts_of self.old).faults }
         ensures listed { fails_of self.new ≡ fails_of self.old }
         ensures attempts { attaches_of self.new ≡ attaches_of self.old }
         ensures rest { rest_of self.new ≡ rest_of self.old }

@@ -6,7 +6,8 @@ use crate::{Sink, SinkFailed};
 use host_block::Oom;
 use std::alloc::Global;
 
-/// A sink with room for so many bytes. The listed calls fail, of which the first has the number 1, and those where nothing fits.
+/// A sink with room for so many bytes. The listed calls fail, of which the first has the number 1,
+/// and those where nothing fits.
 #[derive(Drop)]
 pub struct MemSink {
     bytes: Vec<u8>,
@@ -20,11 +21,11 @@ pub struct MemSink {
 
 impl MemSink {
     ghost use Rattle.std.specs.Prelude.{◌≡◌, ◌↔◌, IsTrue, IfOk};
-    ghost use Rattle.host_io.specs.MemSink.{IsMadeOf, FailsToPut, sink_appended};
+    ghost use Rattle.host_io.specs.MemSink.{IsSinkMadeOf, FailsToPut, sink_appended};
 
     /// An empty sink, which takes its memory for `room` bytes here.
     pub fn new(alloc: Global, room: u32, fails: Vec<u64>) -> Result<MemSink, Oom>
-        ensures { IfOk result (IsMadeOf room fails.items) }
+        ensures { IfOk result (IsSinkMadeOf room fails.items) }
     {
         match Vec::with_capacity(alloc, room as usize) {
             Ok(bytes) => Ok(MemSink {
@@ -59,7 +60,8 @@ impl MemSink {
 impl Sink for MemSink {
     ghost use Rattle.std.specs.Prelude.{◌≡◌, ◌+◌, ◌↔◌, true, min, length, IsErr, IfOk};
     ghost use Rattle.host_io.specs.Causes.{HasCause, faults_after, next_count};
-    ghost use Rattle.host_io.specs.MemSink.{sink_appended, sink_faults, sink_room, sink_fails, sink_calls, FailsToPut};
+    ghost use Rattle.host_io.specs.MemSink.{sink_appended, sink_faults, sink_room, sink_fails};
+    ghost use Rattle.host_io.specs.MemSink.{sink_calls, FailsToPut};
     ghost use Rattle.host_io.specs.Streams.{PutsSome, Puts};
 
     ghost tells = { λ s. true };
@@ -70,7 +72,8 @@ impl Sink for MemSink {
 
     fn put(&mut self, from: &[u8]) -> Result<usize, SinkFailed>
         ensures some { PutsSome from.now result }
-        ensures bytes { Puts true (sink_appended self.old) (sink_appended self.new) from.now result }
+        ensures bytes { Puts true (sink_appended self.old) (sink_appended self.new) from.now
+            result }
         ensures cause { HasCause (sink_faults self.old) (sink_faults self.new) result }
         // What no sink owes but this one.
         ensures fails { IsErr result ↔ FailsToPut self.old from.now }
@@ -78,7 +81,8 @@ impl Sink for MemSink {
         ensures faults { sink_faults self.new ≡ faults_after result (sink_faults self.old) }
         ensures listed { sink_fails self.new ≡ sink_fails self.old }
         ensures calls { sink_calls self.new ≡ next_count (sink_calls self.old) }
-        ensures room { length (sink_appended self.new) + sink_room self.new ≡ length (sink_appended self.old) + sink_room self.old }
+        ensures room { length (sink_appended self.new) + sink_room self.new
+            ≡ length (sink_appended self.old) + sink_room self.old }
     {
         let fails = self.fails_to_put(from);
         self.calls = self.calls.saturating_add(1);

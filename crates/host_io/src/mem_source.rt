@@ -16,10 +16,10 @@ pub struct MemSource {
 }
 
 impl MemSource {
-    ghost use Rattle.host_io.specs.MemSource.{IsMadeOf};
+    ghost use Rattle.host_io.specs.MemSource.{IsSourceMadeOf};
 
     pub fn new(bytes: Vec<u8>, fails: Vec<u64>) -> MemSource
-        ensures { IsMadeOf bytes.items fails.items result }
+        ensures { IsSourceMadeOf bytes.items fails.items result }
     {
         MemSource {
             bytes,
@@ -34,7 +34,8 @@ impl MemSource {
 impl Source for MemSource {
     ghost use Rattle.std.specs.Prelude.{◌≡◌, ◌↔◌, true, min, length, IsErr, IfOk, OnErr, Contains};
     ghost use Rattle.host_io.specs.Causes.{HasCause, faults_after, next_count};
-    ghost use Rattle.host_io.specs.MemSource.{source_left, source_faults, source_fails, source_calls};
+    ghost use Rattle.host_io.specs.MemSource.{source_left, source_faults, source_fails};
+    ghost use Rattle.host_io.specs.MemSource.{source_calls};
     ghost use Rattle.host_io.specs.Streams.{TakesAtMost, Takes};
 
     ghost tells = { λ s. true };
@@ -48,8 +49,10 @@ impl Source for MemSource {
         ensures bytes { Takes true (source_left self.old) (source_left self.new) into.new result }
         ensures cause { HasCause (source_faults self.old) (source_faults self.new) result }
         // What no source owes but this one.
-        ensures fails { IsErr result ↔ Contains (source_fails self.old) (next_count (source_calls self.old)) }
-        ensures count { IfOk result (λ n. n ≡ min (length into.old) (length (source_left self.old))) }
+        ensures fails { IsErr result
+            ↔ Contains (source_fails self.old) (next_count (source_calls self.old)) }
+        ensures count { IfOk result
+            (λ n. n ≡ min (length into.old) (length (source_left self.old))) }
         ensures left { OnErr result (source_left self.new ≡ source_left self.old) }
         ensures faults { source_faults self.new ≡ faults_after result (source_faults self.old) }
         ensures listed { source_fails self.new ≡ source_fails self.old }

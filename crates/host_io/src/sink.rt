@@ -24,6 +24,7 @@ pub trait Sink {
     fn put(&mut self, from: &[u8]) -> Result<usize, SinkFailed>
         ensures tells { tells self.new ≡ tells self.old }
         ensures some { PutsSome from.now result }
-        ensures bytes { Puts (tells self.old) (appended self.old) (appended self.new) from.now result }
+        ensures bytes { Puts (tells self.old) (appended self.old) (appended self.new) from.now
+            result }
         ensures cause { HasCause (faults self.old) (faults self.new) result };
 }

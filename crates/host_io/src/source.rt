@@ -20,7 +20,8 @@ pub trait Source {
     /// How often it has failed.
     ghost faults: { Self → ℕ };
 
-    /// Takes the next bytes into the front of `into`, and says how many. Where `into` has room, 0 is the end.
+    /// Takes the next bytes into the front of `into`, and says how many. Where `into` has room, 0
+    /// is the end.
     fn take(&mut self, into: &mut [u8]) -> Result<usize, SourceFailed>
         ensures tells { tells self.new ≡ tells self.old }
         ensures bound { TakesAtMost into.old result }

@@ -4,7 +4,7 @@ use Rattle.std.specs.Prelude.{nat_lt}
 use Rattle.std.specs.Fmt.{digit_glyph}
 use Rattle.uuid.specs.Parts.{swap_fields}
 use Rattle.uuid.specs.Text.{by_index, hex_digit, hyphenated_text, lower}
-use Rattle.host_list.specs.Guid.{guid_text}
+use Rattle.host_list.specs.{guid_text}
 
 same_digit : (d : ℕ) → hex_digit lower d ≡ digit_glyph false d
 same_digit d = let letters : 97 + d - 10 ≡ 87 + d = omega arith in ap (λ (n : ℕ). cond (nat_lt d 10) (48 + d) n) letters

@@ -2,8 +2,8 @@
 use Rattle.std.proofs.Common.{◌≡◌, ◌∙◌, ◌<◌, take, get_or, ap, append-nil, ◌≤◌, ◌+◌, ◌*◌, ◌/◌, ◌%◌, ℕ, Bool, true, false, cond, List, [], ◌∷◌, ◌++◌, length, length-append, flat_map, codes, arith}
 use Rattle.std.proofs.lemmas.Grind.{flat_map-append}
 use Rattle.std.proofs.lemmas.List.{length-take-le, take_more}
-use Rattle.host_text.specs.Words.{hex_byte}
-use Rattle.host_list.specs.Name.{is_plain, unit_text}
+use Rattle.host_text.specs.{hex_byte}
+use Rattle.host_list.specs.{is_plain, unit_text}
 
 short_unit : (u : ℕ) → length (unit_text u) ≤ 6
 short_unit u = go (is_plain u)

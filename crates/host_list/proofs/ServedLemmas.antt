@@ -7,15 +7,10 @@ use Rattle.std.proofs.lemmas.Bool.Decides.{Decides-and, Decides-by_and, Decides-
 use Rattle.std.proofs.lemmas.Bool.{le-leb, leb-true}
 use Rattle.std.proofs.Math.Dec.{leb}
 use Rattle.host_block.specs.declared.range.Range.{Range}
-use Rattle.host_gpt.specs.Entries.{AreUsed}
-use Rattle.host_gpt.specs.declared.entry.Entry.{Entry}
-use Rattle.host_list.specs.Laws.{TestTellsServed}
-use Rattle.host_list.specs.Served.{serves, shares}
+use Rattle.host_gpt.specs.{AreUsed, Entry}
+use Rattle.host_list.specs.{TestTellsServed, serves, shares}
 use Rattle.host_part.proofs.RangeLemmas.{entry_not_unused, served_not_bad}
-use Rattle.host_part.specs.Ranges.{IsBad, IsEntryOf, IsRangeOf, IsUnused}
-use Rattle.host_part.specs.Served.{Layout, Shares}
-use Rattle.host_part.specs.declared.part_error.PartError.{PartError}
-use Rattle.host_part.specs.declared.part_error.PartError.TheVariants.{BadEntry, Unused}
+use Rattle.host_part.specs.{IsBad, IsEntryOf, IsRangeOf, IsNumberUnused, Layout, Shares, PartError, BadEntry, Unused}
 
 Decides-leb : (a b : ℕ) → Decides (leb a b) (a ≤ b)
 Decides-leb a b = (leb-true a b, le-leb a b)
@@ -44,7 +39,7 @@ tells layout e = (
 )
 
 pub has_range : (layout : Layout) (n : ℕ) (e : Entry) (r : Result Range PartError) → AreUsed layout.entries → IsEntryOf layout n e → IfOk r (IsRangeOf layout n)
-    → (IsErrOf r Unused ↔ IsUnused layout n) → (IsErrOf r BadEntry ↔ IsBad layout n) → is_ok r ≡ serves layout e
+    → (IsErrOf r Unused ↔ IsNumberUnused layout n) → (IsErrOf r BadEntry ↔ IsBad layout n) → is_ok r ≡ serves layout e
 has_range layout n e (Err Unused) used is ok unused bad = absurd (entry_not_unused layout n e is (unused.0 refl))
 has_range layout n e (Err BadEntry) used is ok unused bad = go (serves layout e) refl
   where

@@ -11,18 +11,19 @@ use Rattle.host_io.specs.declared.disk.DiskError.TheVariants as disk
 use Rattle.host_list.specs.Text.{list_text}
 use Rattle.host_list.specs.declared.opened.Opened.{Opened}
 use Rattle.host_list.specs.declared.list_error.ListError.{ListError}
-use Rattle.host_list.specs.declared.list_error.ListError.TheVariants.{Disk, TooManyBlocks, NoTable, TableTooLarge, Oom, Sink}
+use Rattle.host_list.specs.declared.list_error.ListError.TheVariants.{Disk, TooManyBlocks, NoTable}
+use Rattle.host_list.specs.declared.list_error.ListError.TheVariants.{TableTooLarge, Oom, Sink}
 use Rattle.host_text.specs.Writing.{Writes}
 
-abbrev pub of_disk_error : DiskError → ListError
-of_disk_error disk.Failed = Disk
-of_disk_error disk.Oom = Oom
+abbrev pub list_error_of_disk : DiskError → ListError
+list_error_of_disk disk.Failed = Disk
+list_error_of_disk disk.Oom = Oom
 
-abbrev pub of_table_error : TableError → ListError
-of_table_error table.NoTable = NoTable
-of_table_error table.Disk = Disk
-of_table_error table.TooLarge = TableTooLarge
-of_table_error table.Oom = Oom
+abbrev pub list_error_of_table : TableError → ListError
+list_error_of_table table.NoTable = NoTable
+list_error_of_table table.Disk = Disk
+list_error_of_table table.TooLarge = TableTooLarge
+list_error_of_table table.Oom = Oom
 
 -- the most blocks that an image may have
 abbrev pub IsSmallEnough : List (List ℕ) → Type 0
@@ -43,8 +44,8 @@ Refuses image Disk = Unit {0}
 Refuses image Oom = Unit {0}
 Refuses image Sink = Unit {0}
 
--- What a refusal says of the number of blocks that the disk has, whether or not it tells: too many where that is the cause, and
--- not too many where the table was looked at.
+-- What a refusal says of the number of blocks that the disk has, whether or not it tells: too many
+-- where that is the cause, and not too many where the table was looked at.
 abbrev pub RefusesBlocks : ℕ → ListError → Type 0
 RefusesBlocks blocks TooManyBlocks = 262144 < blocks
 RefusesBlocks blocks NoTable = blocks ≤ 262144
@@ -58,38 +59,43 @@ pub record IsReadAlone (size : ℕ) (shape : Shape) : Type 0 where
   pub of_size : shape.size ≡ size
 
 -- attaching an image
-abbrev pub Attached : List (List ℕ) → Result ℕ ListError → Type 0
-Attached image (Ok blocks) = (blocks ≡ length image) × IsSmallEnough image
-Attached image (Err e) = Refuses image e
+abbrev pub AttachedForList : List (List ℕ) → Result ℕ ListError → Type 0
+AttachedForList image (Ok blocks) = (blocks ≡ length image) × IsSmallEnough image
+AttachedForList image (Err e) = Refuses image e
 
 -- the disk attached the image; where it failed or memory was refused, it may not have
-abbrev pub HasAttached : {T : Type 0} → Result T ListError → Type 0
-HasAttached (Ok x) = Unit {0}
-HasAttached (Err Disk) = ⊥
-HasAttached (Err Oom) = ⊥
-HasAttached (Err _) = Unit {0}
+abbrev pub HasAttachedForList : {T : Type 0} → Result T ListError → Type 0
+HasAttachedForList (Ok x) = Unit {0}
+HasAttachedForList (Err Disk) = ⊥
+HasAttachedForList (Err Oom) = ⊥
+HasAttachedForList (Err _) = Unit {0}
 
 -- opening an image
-abbrev pub Opens : List (List ℕ) → Result Opened ListError → Type 0
-Opens image (Ok o) = IsListed image o.blocks o.table
-Opens image (Err e) = Refuses image e
+abbrev pub OpensForList : List (List ℕ) → Result Opened ListError → Type 0
+OpensForList image (Ok o) = IsListed image o.blocks o.table
+OpensForList image (Err e) = Refuses image e
 
 -- the text of a table on the disk's own blocks was put, which is the image's where the disk tells
-pub record Lists (disk_tells : Bool) (image : List (List ℕ)) (own size : ℕ) (tells : Bool) (old new : List ℕ) (result : Result Unit ListError) : Type 0 where
+pub record Lists (disk_tells : Bool) (image : List (List ℕ)) (own size : ℕ) (tells : Bool)
+    (old new : List ℕ) (result : Result Unit ListError) : Type 0 where
   pub blocks : ℕ
   pub table : Table
   pub listed : IsTrue disk_tells → IsListed image blocks table
   pub own_blocks : blocks ≡ own
   pub text : Writes tells old new (list_text blocks size table) result
 
--- What the answer says: the text was put, up to a failure of the sink, or why nothing was put, where the disk tells.
-abbrev pub Answers : Bool → List (List ℕ) → ℕ → ℕ → Bool → List ℕ → List ℕ → Result Unit ListError → Type 0
-Answers disk_tells image own size tells old new (Ok u) = Lists disk_tells image own size tells old new (Ok u)
-Answers disk_tells image own size tells old new (Err Sink) = Lists disk_tells image own size tells old new (Err Sink)
+-- What the answer says: the text was put, up to a failure of the sink, or why nothing was put,
+-- where the disk tells.
+abbrev pub Answers : Bool → List (List ℕ) → ℕ → ℕ → Bool → List ℕ → List ℕ → Result Unit ListError
+    → Type 0
+Answers disk_tells image own size tells old new (Ok u) =
+    Lists disk_tells image own size tells old new (Ok u)
+Answers disk_tells image own size tells old new (Err Sink) =
+    Lists disk_tells image own size tells old new (Err Sink)
 Answers disk_tells image own size tells old new (Err e) = IsTrue disk_tells → Refuses image e
 
 -- the text wasn't begun
-abbrev pub IsRefused : Result Unit ListError → Type 0
-IsRefused (Ok u) = ⊥
-IsRefused (Err Sink) = ⊥
-IsRefused (Err e) = Unit {0}
+abbrev pub IsListRefused : Result Unit ListError → Type 0
+IsListRefused (Ok u) = ⊥
+IsListRefused (Err Sink) = ⊥
+IsListRefused (Err e) = Unit {0}

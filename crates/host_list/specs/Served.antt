@@ -8,5 +8,9 @@ abbrev pub shares : Entry → Entry → Bool
 shares e f = nat_le (max e.first f.first) (min e.last f.last)
 
 unfoldable pub serves : Layout → Entry → Bool
-serves layout e = nat_le layout.first_usable e.first && (nat_le e.first e.last && (nat_le e.last layout.last_usable && (nat_lt layout.last_usable layout.blocks
+serves layout e =
+    nat_le layout.first_usable e.first
+    && (nat_le e.first e.last
+    && (nat_le e.last layout.last_usable
+    && (nat_lt layout.last_usable layout.blocks
     && list_all (λ f. f.number == e.number || not (shares e f)) layout.entries)))

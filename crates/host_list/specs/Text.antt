@@ -14,8 +14,9 @@ abbrev pub disk_line : List ℕ → List ℕ
 disk_line id = line (codes "disk" ∷ guid_text id ∷ [])
 
 -- the three lines before the entries
-abbrev pub head_text : ℕ → ℕ → Table → List ℕ
-head_text blocks size table = image_line blocks size ++ table_line table.which ++ disk_line table.disk_id
+abbrev pub list_head_text : ℕ → ℕ → Table → List ℕ
+list_head_text blocks size table =
+    image_line blocks size ++ table_line table.which ++ disk_line table.disk_id
 
 -- of an entry that is served, and of another
 abbrev pub mark : Bool → List ℕ
@@ -27,12 +28,16 @@ unfoldable pub attributes_text : ℕ → List ℕ
 attributes_text n = hex (bytes_high_first 8 n)
 
 abbrev pub entry_words : Bool → Entry → List (List ℕ)
-entry_words served e = mark served ∷ decimal e.number ∷ codes "first" ∷ decimal e.first ∷ codes "last" ∷ decimal e.last
-    ∷ codes "type" ∷ guid_text e.type_id ∷ codes "id" ∷ guid_text e.id ∷ codes "attributes" ∷ attributes_text e.attributes ∷ codes "name" ∷ name_text e.name ∷ []
+entry_words served e =
+    mark served ∷ decimal e.number ∷ codes "first" ∷ decimal e.first ∷ codes "last" ∷ decimal e.last
+    ∷ codes "type" ∷ guid_text e.type_id ∷ codes "id" ∷ guid_text e.id ∷ codes "attributes"
+    ∷ attributes_text e.attributes ∷ codes "name" ∷ name_text e.name ∷ []
 
 abbrev pub entry_line : Layout → Entry → List ℕ
 entry_line layout e = line (entry_words (serves layout e) e)
 
 -- the text of `list` of a table on an image of so many blocks of this size
 abbrev pub list_text : ℕ → ℕ → Table → List ℕ
-list_text blocks size table = head_text blocks size table ++ flat_map (entry_line (layout_of table blocks)) table.entries.items ++ end_line
+list_text blocks size table =
+    list_head_text blocks size table
+    ++ flat_map (entry_line (layout_of table blocks)) table.entries.items ++ end_line

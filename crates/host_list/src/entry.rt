@@ -4,7 +4,7 @@ ghost use Rattle.host_gpt.specs.Entries.{AreUsed};
 ghost use Rattle.host_list.specs.Text.{attributes_text, entry_line, entry_words, mark};
 ghost use Rattle.host_text.specs.Printed.{printed};
 ghost use Rattle.host_text.specs.Words.{hex, line};
-ghost use Rattle.host_text.specs.Writing.{Puts};
+ghost use Rattle.host_text.specs.Writing.{PutsHeldText};
 
 use crate::guid::guid_text;
 use crate::name::NameText;
@@ -24,7 +24,8 @@ pub fn write_entries<K: Sink>(
 ) -> Result<(), SinkFailed>
     requires all { parts.now.entries ≡ entries.now }
     requires used { AreUsed parts.now.entries }
-    ensures { Puts K.tells K.faults K.appended out.old held.old out.new held.new (flat_map (entry_line parts.now) entries.now) result }
+    ensures { PutsHeldText K.tells K.faults K.appended out.old held.old out.new held.new
+        (flat_map (entry_line parts.now) entries.now) result }
 {
     for entry in entries {
         write_entry(entry, parts, held, out)?;
@@ -40,7 +41,8 @@ fn write_entry<K: Sink>(
 ) -> Result<(), SinkFailed>
     requires listed { Contains parts.now.entries entry.now }
     requires used { AreUsed parts.now.entries }
-    ensures { Puts K.tells K.faults K.appended out.old held.old out.new held.new (entry_line parts.now entry.now) result }
+    ensures { PutsHeldText K.tells K.faults K.appended out.old held.old out.new held.new
+        (entry_line parts.now entry.now) result }
 {
     let served = is_served(parts, entry);
     write_marked(served, entry, held, out)
@@ -52,7 +54,8 @@ fn write_marked<K: Sink>(
     held: &mut Held,
     out: &mut K,
 ) -> Result<(), SinkFailed>
-    ensures { Puts K.tells K.faults K.appended out.old held.old out.new held.new (line (entry_words served entry.now)) result }
+    ensures { PutsHeldText K.tells K.faults K.appended out.old held.old out.new held.new
+        (line (entry_words served entry.now)) result }
 {
     let mut type_buffer = Uuid::encode_buffer();
     let mut id_buffer = Uuid::encode_buffer();

@@ -2,11 +2,11 @@
 ghost use Rattle.std.specs.Prelude.{◌≡◌};
 ghost use Rattle.host_gpt.specs.Entries.{AreUsed};
 ghost use Rattle.host_io.specs.Causes.{HasCause};
-ghost use Rattle.host_list.specs.Text.{disk_line, head_text, list_text};
+ghost use Rattle.host_list.specs.Text.{disk_line, list_head_text, list_text};
 ghost use Rattle.host_part.specs.Served.{layout_of};
 ghost use Rattle.host_report.specs.Text.{image_line, table_line, which_word};
 ghost use Rattle.host_text.specs.Printed.{printed};
-ghost use Rattle.host_text.specs.Writing.{Puts, Writes};
+ghost use Rattle.host_text.specs.Writing.{PutsHeldText, Writes};
 
 use crate::entry::write_entries;
 use crate::guid::guid_text;
@@ -17,7 +17,8 @@ use host_part::Parts;
 use host_text::{Held, Word, put_line};
 use uuid::Uuid;
 
-/// Puts the text of `list` of a table on an image of so many blocks of this size. `parts` is what the table serves there.
+/// Puts the text of `list` of a table on an image of so many blocks of this size. `parts` is what
+/// the table serves there.
 pub fn write_list<K: Sink>(
     blocks: u64,
     size: BlockSize,
@@ -28,7 +29,8 @@ pub fn write_list<K: Sink>(
     requires parts { parts.now ≡ layout_of table.now blocks }
     requires used { AreUsed table.now.entries.items }
     ensures tells { K.tells out.new ≡ K.tells out.old }
-    ensures text { Writes (K.tells out.old) (K.appended out.old) (K.appended out.new) (list_text blocks size table.now) result }
+    ensures text { Writes (K.tells out.old) (K.appended out.old) (K.appended out.new)
+        (list_text blocks size table.now) result }
     ensures cause { HasCause (K.faults out.old) (K.faults out.new) result }
 {
     let mut held = Held::new();
@@ -46,7 +48,8 @@ fn write_text<K: Sink>(
 ) -> Result<(), SinkFailed>
     requires parts { parts.now ≡ layout_of table.now blocks }
     requires used { AreUsed table.now.entries.items }
-    ensures { Puts K.tells K.faults K.appended out.old held.old out.new held.new (list_text blocks size table.now) result }
+    ensures { PutsHeldText K.tells K.faults K.appended out.old held.old out.new held.new
+        (list_text blocks size table.now) result }
 {
     write_head(blocks, size, table, held, out)?;
     write_entries(table.entries.as_slice(), parts, held, out)?;
@@ -60,7 +63,8 @@ fn write_head<K: Sink>(
     held: &mut Held,
     out: &mut K,
 ) -> Result<(), SinkFailed>
-    ensures { Puts K.tells K.faults K.appended out.old held.old out.new held.new (head_text blocks size table.now) result }
+    ensures { PutsHeldText K.tells K.faults K.appended out.old held.old out.new held.new
+        (list_head_text blocks size table.now) result }
 {
     write_image(blocks, size, held, out)?;
     write_which(table.which, held, out)?;
@@ -73,7 +77,8 @@ fn write_image<K: Sink>(
     held: &mut Held,
     out: &mut K,
 ) -> Result<(), SinkFailed>
-    ensures { Puts K.tells K.faults K.appended out.old held.old out.new held.new (image_line blocks size) result }
+    ensures { PutsHeldText K.tells K.faults K.appended out.old held.old out.new held.new
+        (image_line blocks size) result }
 {
     let words = [
         Word::Text(b"image"),
@@ -85,7 +90,8 @@ fn write_image<K: Sink>(
 }
 
 fn write_which<K: Sink>(which: Which, held: &mut Held, out: &mut K) -> Result<(), SinkFailed>
-    ensures { Puts K.tells K.faults K.appended out.old held.old out.new held.new (table_line which) result }
+    ensures { PutsHeldText K.tells K.faults K.appended out.old held.old out.new held.new
+        (table_line which) result }
 {
     put_line(b"", &[Word::Text(b"table"), word_of(which)], held, out)
 }
@@ -100,7 +106,8 @@ fn word_of<'a>(which: Which) -> Word<'a>
 }
 
 fn write_disk<K: Sink>(id: &[u8; 16], held: &mut Held, out: &mut K) -> Result<(), SinkFailed>
-    ensures { Puts K.tells K.faults K.appended out.old held.old out.new held.new (disk_line id.now) result }
+    ensures { PutsHeldText K.tells K.faults K.appended out.old held.old out.new held.new
+        (disk_line id.now) result }
 {
     let mut buffer = Uuid::encode_buffer();
     let words = [Word::Text(b"disk"), Word::Text(guid_text(id, &mut buffer))];

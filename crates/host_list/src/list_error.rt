@@ -1,5 +1,5 @@
 ghost use Rattle.std.specs.Prelude.{◌≡◌};
-ghost use Rattle.host_list.specs.Answers.{of_disk_error, of_table_error};
+ghost use Rattle.host_list.specs.Answers.{list_error_of_disk, list_error_of_table};
 ghost use Rattle.host_list.specs.declared.list_error.ListError.TheVariants.{Oom as NoMemory};
 
 use host_block::Oom;
@@ -29,7 +29,7 @@ pub enum ListError {
 }
 
 impl From<DiskError> for ListError {
-    ghost from_gives = { λ error e. e ≡ of_disk_error error };
+    ghost from_gives = { λ error e. e ≡ list_error_of_disk error };
 
     fn from(error: DiskError) -> ListError {
         match error {
@@ -40,7 +40,7 @@ impl From<DiskError> for ListError {
 }
 
 impl From<TableError> for ListError {
-    ghost from_gives = { λ error e. e ≡ of_table_error error };
+    ghost from_gives = { λ error e. e ≡ list_error_of_table error };
 
     fn from(error: TableError) -> ListError {
         match error {

@@ -23,12 +23,14 @@ pub struct Opened {
 }
 
 impl Opened {
-    ghost use Rattle.std.specs.Prelude.{◌≡◌, ◌≢◌, ◌⊎◌, false, Err, IfErr, IfOk, IsErrOf, IsOk, IsTrue};
+    ghost use Rattle.std.specs.Prelude.{◌≡◌, ◌≢◌, ◌⊎◌, false, Err, IfErr, IfOk, IsErrOf, IsOk};
+    ghost use Rattle.std.specs.Prelude.{IsTrue};
     ghost use Rattle.host_io.specs.Causes.{Rose};
     ghost use Rattle.host_io.specs.Disks.{OnlyReads, OpensNone};
-    ghost use Rattle.host_list.specs.Answers.{HasAttached, Opens, RefusesBlocks};
+    ghost use Rattle.host_list.specs.Answers.{HasAttachedForList, OpensForList, RefusesBlocks};
     ghost use Rattle.host_list.specs.Text.{list_text};
-    ghost use Rattle.host_list.specs.declared.list_error.ListError.TheVariants.{Disk as DiskFails, Sink as SinkFails};
+    ghost use Rattle.host_list.specs.declared.list_error.ListError.TheVariants.{Disk as DiskFails};
+    ghost use Rattle.host_list.specs.declared.list_error.ListError.TheVariants.{Sink as SinkFails};
     ghost use Rattle.host_text.specs.Writing.{Writes};
 
     /// Attaches an image, to read alone, and reads its table.
@@ -39,16 +41,19 @@ impl Opened {
         disk: &mut D,
     ) -> Result<Opened, ListError>
         ensures inside { result ≢ Err SinkFails }
-        ensures fault { IsErrOf result DiskFails → Rose (D.counts disk.old).faults (D.counts disk.new).faults }
-        ensures only_reads { OnlyReads (D.counts disk.old) (D.counts disk.new) (D.never_fails disk.old) (D.never_fails disk.new) }
+        ensures fault { IsErrOf result DiskFails
+            → Rose (D.counts disk.old).faults (D.counts disk.new).faults }
+        ensures only_reads { OnlyReads (D.counts disk.old) (D.counts disk.new)
+            (D.never_fails disk.old) (D.never_fails disk.new) }
         ensures opens_none { OpensNone (D.shape disk.old) (D.shape disk.new) }
-        ensures is_attached { HasAttached result → IsTrue (D.shape disk.new).attached }
-        ensures read_alone { HasAttached result → (D.shape disk.new).writable ≡ false }
-        ensures of_size { HasAttached result → (D.shape disk.new).size ≡ size }
+        ensures is_attached { HasAttachedForList result → IsTrue (D.shape disk.new).attached }
+        ensures read_alone { HasAttachedForList result → (D.shape disk.new).writable ≡ false }
+        ensures of_size { HasAttachedForList result → (D.shape disk.new).size ≡ size }
         ensures blocks { IfErr result (RefusesBlocks (D.shape disk.new).blocks) }
         ensures own_blocks { IfOk result (λ opened. opened.blocks ≡ (D.shape disk.new).blocks) }
         ensures size { IfOk result (λ opened. opened.size ≡ size) }
-        ensures opens { IsTrue (D.shape disk.old).tells → Opens (D.image_named disk.old image.now size) result }
+        ensures opens { IsTrue (D.shape disk.old).tells
+            → OpensForList (D.image_named disk.old image.now size) result }
     {
         let blocks = attach(image, size, disk)?;
         let table = read_table(alloc, disk, blocks, size)?;
@@ -66,7 +71,8 @@ impl Opened {
         ensures fault { IsErrOf result SinkFails → Rose (K.faults out.old) (K.faults out.new) }
         ensures alone { IsErrOf result SinkFails ⊎ IsOk result }
         ensures tells { K.tells out.new ≡ K.tells out.old }
-        ensures text { Writes (K.tells out.old) (K.appended out.old) (K.appended out.new) (list_text self.now.blocks self.now.size self.now.table) result }
+        ensures text { Writes (K.tells out.old) (K.appended out.old) (K.appended out.new)
+            (list_text self.now.blocks self.now.size self.now.table) result }
     {
         match write_list(self.blocks, self.size, &self.table, &self.parts, out) {
             Ok(()) => Ok(()),

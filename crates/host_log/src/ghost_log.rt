@@ -1,5 +1,6 @@
 //! A log whose entries only clauses see. It keeps their number.
-ghost use Rattle.std.specs.Prelude.{◌≡◌, ◌+◌, ◌<◌, ◌^◌, ◌≤◌, [], ◌∷◌, ◌++◌, length, max, IfOk, OnOk, OnErr};
+ghost use Rattle.std.specs.Prelude.{◌≡◌, ◌+◌, ◌<◌, ◌^◌, ◌≤◌, [], ◌∷◌, ◌++◌, length, max, IfOk};
+ghost use Rattle.std.specs.Prelude.{OnOk, OnErr};
 ghost use Rattle.host_block.specs.Room.{WithRoom, spare_of};
 
 use crate::ghosts::Ghost;
@@ -12,8 +13,8 @@ use std::alloc::Global;
 use std::collections::LinkedList;
 use std::marker::Model;
 
-/// The number of the entries that were pushed, the number of entries that may be pushed in all, and, for clauses, the
-/// entries. It takes no memory.
+/// The number of the entries that were pushed, the number of entries that may be pushed in all,
+/// and, for clauses, the entries. It takes no memory.
 #[derive(Drop)]
 pub struct GhostLog<T> {
     count: u64,
@@ -97,9 +98,11 @@ impl<T> GhostLog<T> {
         self.count += 1;
     }
 
-    /// Lets `n` entries more than there are fit. It has `Oom` for an answer where that is no number of 64 bits.
+    /// Lets `n` entries more than there are fit. It has `Oom` for an answer where that is no number
+    /// of 64 bits.
     pub fn reserve(&mut self, n: u64) -> Result<(), Oom>
-        ensures ok { OnOk result (self.new ≡ record self.old { room = max self.old.room (length self.old.items + n) }) }
+        ensures ok { OnOk result (self.new
+            ≡ record self.old { room = max self.old.room (length self.old.items + n) }) }
         ensures err { OnErr result ((self.new ≡ self.old) × (2 ^ 64 ≤ length self.old.items + n)) }
     {
         if n > u64::MAX - self.count {
@@ -111,7 +114,8 @@ impl<T> GhostLog<T> {
 
     pub(crate) fn widen(&mut self, n: u64)
         requires { length self.old.items + n < 2 ^ 64 }
-        ensures { self.new ≡ record self.old { room = max self.old.room (length self.old.items + n) } }
+        ensures { self.new
+            ≡ record self.old { room = max self.old.room (length self.old.items + n) } }
     {
         self.room = self.room.max(self.count + n);
     }

@@ -1,6 +1,7 @@
 //! A log that keeps its entries or not, as it was told when it was made.
-ghost use Rattle.std.specs.Prelude.{◌≡◌, ◌+◌, ◌<◌, ◌≤◌, [], ◌∷◌, ◌++◌, length, max, true, false, IfOk, OnOk, OnErr, IfSome, IfNone, IsTrue};
-ghost use Rattle.host_log.specs.Switch.{SwitchedLog, spare_of};
+ghost use Rattle.std.specs.Prelude.{◌≡◌, ◌+◌, ◌<◌, ◌≤◌, [], ◌∷◌, ◌++◌, length, max, true, false};
+ghost use Rattle.std.specs.Prelude.{IfOk, OnOk, OnErr, IfSome, IfNone, IsTrue};
+ghost use Rattle.host_log.specs.Switch.{SwitchedLog, spare_in_log};
 
 use crate::ghost_log::GhostLog;
 use crate::listing::Listing;
@@ -23,9 +24,11 @@ impl<T> Model for SwitchLog<T> {
 
     ghost Value = { SwitchedLog T };
 
-    ghost view = { λ l. record { items = l.seen.items; room = l.seen.room; kept = is_some l.kept } };
+    ghost view = { λ l.
+        record { items = l.seen.items; room = l.seen.room; kept = is_some l.kept } };
 
-    ghost invariant = { λ l. IfSome l.kept (λ k. (k.items ≡ l.seen.items) × (l.seen.room ≤ k.room)) };
+    ghost invariant = { λ l.
+        IfSome l.kept (λ k. (k.items ≡ l.seen.items) × (l.seen.room ≤ k.room)) };
 }
 
 impl<T: Drop> SwitchLog<T> {
@@ -83,7 +86,8 @@ impl<T: Drop> SwitchLog<T> {
     /// Adds the entry that a note tells at the end. It is made only where the entries are kept.
     pub fn push_note<N: Note<Entry = T>>(&mut self, alloc: Global, note: &N) -> Result<(), Oom>
         requires { length self.old.items < self.old.room }
-        ensures ok { OnOk result (self.new ≡ record self.old { items = self.old.items ++ N.entry note.now ∷ [] }) }
+        ensures ok { OnOk result
+            (self.new ≡ record self.old { items = self.old.items ++ N.entry note.now ∷ [] }) }
         ensures err { OnErr result ((self.new ≡ self.old) × (self.old.kept ≡ true)) }
     {
         if let Some(kept) = &mut self.kept {
@@ -104,7 +108,8 @@ impl<T: Drop> SwitchLog<T> {
 
     /// Makes room for `n` entries more than there are.
     pub fn reserve(&mut self, n: u64) -> Result<(), Oom>
-        ensures ok { OnOk result (self.new ≡ record self.old { room = max self.old.room (length self.old.items + n) }) }
+        ensures ok { OnOk result (self.new
+            ≡ record self.old { room = max self.old.room (length self.old.items + n) }) }
         ensures err { OnErr result (self.new ≡ self.old) }
     {
         if n > u64::MAX - self.seen.len() {
@@ -125,7 +130,7 @@ impl<T: Drop> SwitchLog<T> {
 
     /// How many entries may still be pushed.
     pub fn spare(&self) -> u64
-        ensures { result ≡ spare_of self.now }
+        ensures { result ≡ spare_in_log self.now }
     {
         self.seen.spare()
     }

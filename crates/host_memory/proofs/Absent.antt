@@ -3,9 +3,8 @@ use Rattle.std.proofs.Common.{◌≡◌, ℕ, ◌==◌, Bool, true, false, if◌
 use Rattle.std.specs.Prelude.{slice_get}
 use Rattle.std.specs.List.{list_any}
 use Rattle.std.specs.Option.{option_map_or}
-use Rattle.host_model.specs.declared.memory.MemEvent.{MemEvent}
-use Rattle.host_model.specs.Releases.{buffer_of}
-use Rattle.host_memory.specs.Held.{Attachment, attachment_by, attachment_of, closer_of, is_before_close, is_released, pages_for, standing_in}
+use Rattle.host_model.specs.{MemEvent, buffer_of}
+use Rattle.host_memory.specs.{Attachment, attachment_by, attachment_of, closer_of, is_before_close, is_released, pages_for, standing_in}
 use Rattle.host_memory.proofs.Telling.{leaves_alone, no_map}
 
 pub absent_attachment : (v : ℕ) (h : List MemEvent) → list_any (λ e. buffer_of e == v) h ≡ false → attachment_of v h ≡ None

@@ -7,21 +7,10 @@ use Rattle.std.proofs.lemmas.Bool.{ne_eqb, or_parts}
 use Rattle.std.proofs.lemmas.List.{get_or-replicate, length-replicate}
 use Rattle.std.proofs.lemmas.Option.{slice_get_within}
 use Rattle.atomic_table.specs.Seated.{TableId}
-use Rattle.host_log.specs.Switch.{SwitchedLog}
-use Rattle.host_frames.specs.Seats.{SeenPages, contents, pages_pool}
-use Rattle.host_model.specs.declared.memory.MemEntry.{MemEntry}
-use Rattle.host_model.specs.declared.memory.MemEvent.{MemEvent}
-use Rattle.host_model.specs.declared.memory.MemEvent.TheVariants.{Attach}
-use Rattle.host_model.specs.Lists.{count, last}
-use Rattle.host_model.specs.Pages.{put_by}
-use Rattle.host_model.specs.Releases.{buffer_of, is_pin, is_release_of}
-use Rattle.host_memory.specs.declared.buffer.Buffer.{Buffer}
-use Rattle.host_memory.specs.declared.limits.MemoryLimits.{MemoryLimits}
-use Rattle.host_memory.specs.Entries.{is_attach, is_fill_or_show, used_room}
-use Rattle.host_memory.specs.Held.{attachment_by, closer_by, is_released}
-use Rattle.host_memory.specs.Kept.{AreTold, IsKept, IsToldBy}
-use Rattle.host_memory.specs.Pins.{is_left, pins_left, pins_on}
-use Rattle.host_memory.specs.State.{events}
+use Rattle.host_log.specs.{SwitchedLog}
+use Rattle.host_frames.specs.{SeenPages, contents, pages_pool}
+use Rattle.host_model.specs.{MemEntry, MemEvent, Attach, count, last, page_put_by, buffer_of, is_pin, is_release_of}
+use Rattle.host_memory.specs.{Buffer, MemoryLimits, is_attach_entry, is_fill_or_show, used_room, attachment_by, closer_by, is_released, AreTold, IsMemoryKept, IsToldBy, is_left, pins_left, pins_on, events}
 use Rattle.host_memory.proofs.Keeping.{kept_pushed}
 use Rattle.host_memory.proofs.Numbered.{numbered_pushed}
 use Rattle.host_memory.proofs.Owing.{owed_snoc}
@@ -59,12 +48,12 @@ module _ (pool : TableId × ℕ) (size : ℕ) (h : List MemEvent) (v from : ℕ)
     pinned = unpinned_yet;
     held = ap (λ q. Some (q, length (contents p))) of_pool ∙ ap (λ b. if b then None else Some (pool, length (contents p))) (sym still_unreleased);
     unpinned = λ r. refl;
-    bytes = λ k lt. blank_page k lt ∙ (sym (ap (last (replicate size 0)) (no_map v (put_by size v k) (λ e n. (leaves_alone size v e n).put k) h none)) ∙ sym (page_same size h v k entry refl));
+    bytes = λ k lt. blank_page k lt ∙ (sym (ap (last (replicate size 0)) (no_map v (page_put_by size v k) (λ e n. (leaves_alone size v e n).put k) h none)) ∙ sym (page_same size h v k entry refl));
     long = λ k lt. ap length (blank_page k lt) ∙ length-replicate size 0;
     few = fits;
   }
 
-module _ (pool : TableId × ℕ) (size : ℕ) (h : List MemEvent) (bs : List Buffer) (t : AreTold pool size h bs) (b : Buffer) (e : MemEvent) (of : buffer_of e ≡ suc (length bs)) (attach : is_attach e ≡ true)
+module _ (pool : TableId × ℕ) (size : ℕ) (h : List MemEvent) (bs : List Buffer) (t : AreTold pool size h bs) (b : Buffer) (e : MemEvent) (of : buffer_of e ≡ suc (length bs)) (attach : is_attach_entry e ≡ true)
     (same : pins_left (h ++ e ∷ []) ≡ pins_left h) (told : IsToldBy pool size (h ++ e ∷ []) (suc (length bs)) b) where
   each_step : (j : ℕ) (d : Buffer) → ((j ≡ length bs) × (b ≡ d)) ⊎ (slice_get bs j ≡ Some d) → IsToldBy pool size (h ++ e ∷ []) (suc j) d
   each_step j d (inl q) = subst (λ k. IsToldBy pool size (h ++ e ∷ []) (suc k) d) (sym q.0) (subst (λ x. IsToldBy pool size (h ++ e ∷ []) (suc (length bs)) x) q.1 told)
@@ -74,22 +63,22 @@ module _ (pool : TableId × ℕ) (size : ℕ) (h : List MemEvent) (bs : List Buf
 
   told_more : AreTold pool size (h ++ e ∷ []) (bs ++ b ∷ [])
   told_more = record {
-    given = count_add is_attach h e attach ∙ (ap (λ n. n + 1) t.given ∙ sym (length-append bs (b ∷ [])));
+    given = count_add is_attach_entry h e attach ∙ (ap (λ n. n + 1) t.given ∙ sym (length-append bs (b ∷ [])));
     each = λ j d g. each_step j d (slice_get-snoc bs j b d g);
     never = any_skip (λ x. buffer_of x == 0) h e (ne_eqb (buffer_of e) 0 (λ z. absurd (let s = sym of ∙ z in omega arith))) ∙ t.never;
     fresh = λ v out. (let n = length-append bs (b ∷ []) in any_skip (λ x. buffer_of x == v) h e (ne_eqb (buffer_of e) v (λ z. absurd (let s = sym of ∙ z in omega arith))) ∙ t.fresh v (omega arith));
   }
 
-module _ (limits : MemoryLimits) (pool : TableId × ℕ) (l : SwitchedLog MemEntry) (moves left : ℕ) (bs : List Buffer) (k : IsKept limits pool l moves left bs) where
+module _ (limits : MemoryLimits) (pool : TableId × ℕ) (l : SwitchedLog MemEntry) (moves left : ℕ) (bs : List Buffer) (k : IsMemoryKept limits pool l moves left bs) where
   attached_here : (from : ℕ) (p : SeenPages) → pages_pool p ≡ pool → contents p ≡ replicate (length (contents p)) (replicate limits.size 0) → length (contents p) ≤ 4294967295 → used_room (events l.items) + 3 ≤ limits.room → length bs < limits.ids
-      → IsKept limits pool (record l { items = l.items ++ record { hand = limits.hands; what = Attach (suc (length bs)) (length (contents p)) from } ∷ [] }) moves left
+      → IsMemoryKept limits pool (record l { items = l.items ++ record { hand = limits.hands; what = Attach (suc (length bs)) (length (contents p)) from } ∷ [] }) moves left
       (bs ++ record { page_count = length (contents p); from = from; pages = Some p; closer = None; pins = 0 } ∷ [])
   attached_here from p of_pool blank fits room few =
       let h = events l.items in let v = suc (length bs) in let e = Attach v (length (contents p)) from in
       let b : Buffer = record { page_count = length (contents p); from = from; pages = Some p; closer = None; pins = 0 } in
       let none : list_any (λ x. buffer_of x == v) h ≡ false = k.told.fresh v (omega arith) in
       let same : pins_left (h ++ e ∷ []) ≡ pins_left h = pins_left_same h e (λ j. refl) refl in
-      let attaches : count is_attach (h ++ e ∷ []) ≡ count is_attach h + 1 = count_add is_attach h e refl in
+      let attaches : count is_attach_entry (h ++ e ∷ []) ≡ count is_attach_entry h + 1 = count_add is_attach_entry h e refl in
       let uses : count is_fill_or_show (h ++ e ∷ []) ≡ count is_fill_or_show h = count_skip is_fill_or_show h e refl in
       let pins : count is_pin (h ++ e ∷ []) ≡ count is_pin h = count_skip is_pin h e refl in
       let owes = owed_snoc bs b in let long = length-append bs (b ∷ []) in let pinned = k.room.pinned in let enough = k.room.room in
@@ -101,8 +90,8 @@ module _ (limits : MemoryLimits) (pool : TableId × ℕ) (l : SwitchedLog MemEnt
 
   pub kept_attached : (id n from : ℕ) (p : SeenPages) → suc (length bs) ≡ id → n ≡ length (contents p) → pages_pool p ≡ pool → contents p ≡ replicate (length (contents p)) (replicate limits.size 0)
       → n ≤ 4294967295 → used_room (events l.items) + 3 ≤ limits.room → length bs < limits.ids
-      → IsKept limits pool (record l { items = l.items ++ record { hand = limits.hands; what = Attach id n from } ∷ [] }) moves left (bs ++ record { page_count = n; from = from; pages = Some p; closer = None; pins = 0 } ∷ [])
+      → IsMemoryKept limits pool (record l { items = l.items ++ record { hand = limits.hands; what = Attach id n from } ∷ [] }) moves left (bs ++ record { page_count = n; from = from; pages = Some p; closer = None; pins = 0 } ∷ [])
   kept_attached id n from p named is of_pool blank fits room few =
-      subst (λ v. IsKept limits pool (record l { items = l.items ++ record { hand = limits.hands; what = Attach v n from } ∷ [] }) moves left (bs ++ record { page_count = n; from = from; pages = Some p; closer = None; pins = 0 } ∷ [])) named
-      (subst (λ m. IsKept limits pool (record l { items = l.items ++ record { hand = limits.hands; what = Attach (suc (length bs)) m from } ∷ [] }) moves left (bs ++ record { page_count = m; from = from; pages = Some p; closer = None; pins = 0 } ∷ [])) (sym is)
+      subst (λ v. IsMemoryKept limits pool (record l { items = l.items ++ record { hand = limits.hands; what = Attach v n from } ∷ [] }) moves left (bs ++ record { page_count = n; from = from; pages = Some p; closer = None; pins = 0 } ∷ [])) named
+      (subst (λ m. IsMemoryKept limits pool (record l { items = l.items ++ record { hand = limits.hands; what = Attach (suc (length bs)) m from } ∷ [] }) moves left (bs ++ record { page_count = m; from = from; pages = Some p; closer = None; pins = 0 } ∷ [])) (sym is)
       (attached_here from p of_pool blank (subst (λ m. m ≤ 4294967295) is fits) room few))

@@ -7,20 +7,10 @@ use Rattle.std.proofs.lemmas.Bool.{eqb-true, ltb-true}
 use Rattle.std.proofs.lemmas.Bool.Decides.{leb_tells}
 use Rattle.std.proofs.lemmas.Option.{slice_get_read}
 use Rattle.atomic_table.specs.Seated.{TableId}
-use Rattle.host_log.specs.Switch.{SwitchedLog}
-use Rattle.host_frames.specs.Seats.{SeenPages}
-use Rattle.host_model.specs.declared.memory.MemEntry.{MemEntry}
-use Rattle.host_model.specs.declared.memory.MemEvent.{MemEvent}
-use Rattle.host_model.specs.declared.memory.MemEvent.TheVariants.{Pin}
-use Rattle.host_model.specs.Pages.{page_at}
-use Rattle.host_model.specs.Releases.{buffer_of}
-use Rattle.host_memory.specs.declared.buffer.Buffer.{Buffer}
-use Rattle.host_memory.specs.declared.limits.MemoryLimits.{MemoryLimits}
-use Rattle.host_memory.specs.Held.{Attachment, attachment_of, holds_pages, is_block_of, is_released}
-use Rattle.host_memory.specs.Kept.{AreTold, IsKept, IsToldBy}
-use Rattle.host_memory.specs.PagesHeld.{contents_held, outline, page_held}
-use Rattle.host_memory.specs.Pins.{is_left, is_pin_by, is_pin_for, is_pinned_by, pins_left, pins_on}
-use Rattle.host_memory.specs.State.{events}
+use Rattle.host_log.specs.{SwitchedLog}
+use Rattle.host_frames.specs.{SeenPages}
+use Rattle.host_model.specs.{MemEntry, MemEvent, Pin, page_at, buffer_of}
+use Rattle.host_memory.specs.{Buffer, MemoryLimits, Attachment, attachment_of, holds_pages, is_block_of, is_released, AreTold, IsMemoryKept, IsToldBy, contents_held, outline, page_held, is_left, is_pin_by, is_pin_for, is_pinned_by, pins_left, pins_on, events}
 use Rattle.host_memory.proofs.Pinning.{some_counted}
 use Rattle.host_memory.proofs.Seeing.{attachment_is}
 
@@ -80,7 +70,7 @@ counted_step : (pool : TableId × ℕ) (p : Option SeenPages) (n : ℕ) → outl
 counted_step pool None n e = absurd (cc)
 counted_step pool (Some p) n e = ap (λ o. option_map_or (λ x. x.1) o 0) e
 
-module _ (limits : MemoryLimits) (pool : TableId × ℕ) (l : SwitchedLog MemEntry) (moves left : ℕ) (bs : List Buffer) (k : IsKept limits pool l moves left bs)
+module _ (limits : MemoryLimits) (pool : TableId × ℕ) (l : SwitchedLog MemEntry) (moves left : ℕ) (bs : List Buffer) (k : IsMemoryKept limits pool l moves left bs)
     (hand index id : ℕ) (pinned : is_pinned_by hand index id (events l.items) ≡ true) where
   pub pinned_given : (1 ≤ id) × (id ≤ length bs)
   pinned_given = entered pool limits.size (events l.items) bs k.told id

@@ -5,15 +5,10 @@ use Rattle.std.specs.Bool.{then_some}
 use Rattle.std.specs.Option.{option_map_or, is_some}
 use Rattle.std.proofs.lemmas.Bool.Decides.{eqb_tells}
 use Rattle.atomic_table.specs.Seated.{TableId}
-use Rattle.host_frames.specs.Seats.{SeenPages}
-use Rattle.host_model.specs.declared.memory.MemEvent.{MemEvent}
+use Rattle.host_frames.specs.{SeenPages}
+use Rattle.host_model.specs.{MemEvent, count, page_put_by, buffer_of, is_release_of}
 use Rattle.host_model.specs.declared.memory.MemEvent.TheVariants as mem
-use Rattle.host_model.specs.Lists.{count}
-use Rattle.host_model.specs.Pages.{put_by}
-use Rattle.host_model.specs.Releases.{buffer_of, is_release_of}
-use Rattle.host_memory.specs.Held.{Attachment, attachment_by, attachment_of, closer_by, closer_of, holds_pages, is_before_close, is_released, page_count_of, pages_for, standing_in}
-use Rattle.host_memory.specs.PagesHeld.{ArePagesOf}
-use Rattle.host_memory.specs.Pins.{closer_due, pins_on}
+use Rattle.host_memory.specs.{Attachment, attachment_by, attachment_of, closer_by, closer_of, holds_pages, is_before_close, is_released, page_count_of, pages_for, standing_in, ArePagesOf, closer_due, pins_on}
 use Rattle.host_memory.proofs.Pinning.{pins_left_same}
 use Rattle.host_memory.proofs.Pushed.{any_skip, filter_map_add, filter_map_skip, page_same}
 
@@ -33,7 +28,7 @@ holds_still v h e a r =
     ∙ ap (λ l. option_map_or (λ n. true) (if is_released v h then None else option_map_or (λ x. Some x.pages) (slice_get l 0) None) false) (filter_map_skip (attachment_by v) h e a)
 
 -- what pages have is the same before an entry that attaches nothing and puts nothing
-pub pages_before : (pool : TableId × ℕ) (size v : ℕ) (h : List MemEvent) (e : MemEvent) (p : SeenPages) → attachment_by v e ≡ None → ((k : ℕ) → put_by size v k e ≡ None)
+pub pages_before : (pool : TableId × ℕ) (size v : ℕ) (h : List MemEvent) (e : MemEvent) (p : SeenPages) → attachment_by v e ≡ None → ((k : ℕ) → page_put_by size v k e ≡ None)
     → ArePagesOf pool size (h ++ e ∷ []) v (page_count_of v (h ++ e ∷ [])) p → ArePagesOf pool size h v (page_count_of v h) p
 pages_before pool size v h e p a n are =
     let same : page_count_of v (h ++ e ∷ []) ≡ page_count_of v h = ap (λ l. option_map_or (λ x. x.pages) (slice_get l 0) 0) (filter_map_skip (attachment_by v) h e a) in

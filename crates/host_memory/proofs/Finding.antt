@@ -3,19 +3,12 @@ use Rattle.std.proofs.Common.{◌≡◌, ℕ, suc, ◌+◌, ◌<◌, List, lengt
 use Rattle.std.specs.Prelude.{slice_get}
 use Rattle.std.proofs.lemmas.Option.{slice_get_read}
 use Rattle.atomic_table.specs.Seated.{TableId}
-use Rattle.host_log.specs.Switch.{SwitchedLog}
-use Rattle.host_model.specs.declared.memory.MemEntry.{MemEntry}
-use Rattle.host_model.specs.declared.memory.MemEvent.{MemEvent}
-use Rattle.host_memory.specs.declared.buffer.Buffer.{Buffer}
-use Rattle.host_memory.specs.declared.limits.MemoryLimits.{MemoryLimits}
-use Rattle.host_memory.specs.Entries.{given_count}
-use Rattle.host_memory.specs.Held.{has_blocks, standing_in}
-use Rattle.host_memory.specs.Kept.{IsKept, IsToldBy}
-use Rattle.host_memory.specs.PagesHeld.{has_pages_at, pages_standing}
-use Rattle.host_memory.specs.State.{events}
+use Rattle.host_log.specs.{SwitchedLog}
+use Rattle.host_model.specs.{MemEntry, MemEvent}
+use Rattle.host_memory.specs.{Buffer, MemoryLimits, given_count, has_blocks, standing_in, IsMemoryKept, IsToldBy, has_pages_at, pages_standing, events}
 use Rattle.host_memory.proofs.Seeing.{has_blocks_is, standing_is}
 
-module _ (limits : MemoryLimits) (pool : TableId × ℕ) (l : SwitchedLog MemEntry) (moves left : ℕ) (bs : List Buffer) (k : IsKept limits pool l moves left bs)
+module _ (limits : MemoryLimits) (pool : TableId × ℕ) (l : SwitchedLog MemEntry) (moves left : ℕ) (bs : List Buffer) (k : IsMemoryKept limits pool l moves left bs)
     (h : List MemEvent) (seen : events l.items ≡ h) (i id : ℕ) (x : Buffer) (named : i + 1 ≡ id) (given : i < given_count h) (here : x ≡ get_or bs i x) where
   id_is : suc i ≡ id
   id_is = omega arith

@@ -4,16 +4,10 @@ use Rattle.std.specs.Prelude.{slice_get}
 use Rattle.std.specs.Option.{option_map_or}
 use Rattle.std.proofs.lemmas.Option.{slice_get_read}
 use Rattle.atomic_table.specs.Seated.{TableId}
-use Rattle.host_log.specs.Switch.{SwitchedLog}
-use Rattle.host_frames.specs.Seats.{SeenPages, contents, pages_pool}
-use Rattle.host_model.specs.declared.memory.MemEntry.{MemEntry}
-use Rattle.host_memory.specs.declared.buffer.Buffer.{Buffer}
-use Rattle.host_memory.specs.declared.limits.MemoryLimits.{MemoryLimits}
-use Rattle.host_memory.specs.Held.{Attachment, attachment_of, closer_of, holds_pages, is_released, page_count_of}
-use Rattle.host_memory.specs.Kept.{IsKept, IsToldBy, release_owed}
-use Rattle.host_memory.specs.PagesHeld.{ArePagesOf, contents_held, outline, page_held}
-use Rattle.host_memory.specs.Pins.{closer_due}
-use Rattle.host_memory.specs.State.{events}
+use Rattle.host_log.specs.{SwitchedLog}
+use Rattle.host_frames.specs.{SeenPages, contents, pages_pool}
+use Rattle.host_model.specs.{MemEntry}
+use Rattle.host_memory.specs.{Buffer, MemoryLimits, Attachment, attachment_of, closer_of, holds_pages, is_released, page_count_of, IsMemoryKept, IsToldBy, release_owed, ArePagesOf, contents_held, outline, page_held, closer_due, events}
 use Rattle.host_memory.proofs.Present.{present}
 use Rattle.host_memory.proofs.Seeing.{attachment_is, closer_is}
 
@@ -30,7 +24,7 @@ some_step : (p : Option SeenPages) (o : (TableId × ℕ) × ℕ) → outline p �
 some_step None o e = absurd (cc)
 some_step (Some p) o e = refl
 
-module _ (limits : MemoryLimits) (pool : TableId × ℕ) (l : SwitchedLog MemEntry) (moves left : ℕ) (bs : List Buffer) (k : IsKept limits pool l moves left bs)
+module _ (limits : MemoryLimits) (pool : TableId × ℕ) (l : SwitchedLog MemEntry) (moves left : ℕ) (bs : List Buffer) (k : IsMemoryKept limits pool l moves left bs)
     (id : ℕ) (holds : holds_pages id (events l.items) ≡ true) where
   pub holds_given : (1 ≤ id) × (id ≤ length bs)
   holds_given = present pool limits.size (events l.items) bs k.told id (absent_step (is_released id (events l.items)) (attachment_of id (events l.items)) holds)

@@ -4,19 +4,9 @@ use Rattle.std.specs.Prelude.{slice_get}
 use Rattle.std.specs.List.{list_any}
 use Rattle.std.proofs.lemmas.List.{length-set}
 use Rattle.atomic_table.specs.Seated.{TableId}
-use Rattle.host_log.specs.Switch.{SwitchedLog}
-use Rattle.host_model.specs.declared.memory.MemEntry.{MemEntry}
-use Rattle.host_model.specs.declared.memory.MemEvent.{MemEvent}
-use Rattle.host_model.specs.Lists.{count}
-use Rattle.host_model.specs.Pages.{lifts_page}
-use Rattle.host_model.specs.Releases.{buffer_of, is_pin, is_release_of, is_close_of}
-use Rattle.host_memory.specs.declared.buffer.Buffer.{Buffer}
-use Rattle.host_memory.specs.declared.limits.MemoryLimits.{MemoryLimits}
-use Rattle.host_memory.specs.Entries.{is_attach, used_room, pin_count}
-use Rattle.host_memory.specs.Held.{is_released}
-use Rattle.host_memory.specs.Kept.{AreNumbered, AreTold, IsSound, IsToldBy, IsKept, owed}
-use Rattle.host_memory.specs.Pins.{is_pin_for, is_done_for, pins_left}
-use Rattle.host_memory.specs.State.{events}
+use Rattle.host_log.specs.{SwitchedLog}
+use Rattle.host_model.specs.{MemEntry, MemEvent, count, lifts_page, buffer_of, is_pin, is_release_of, is_close_of}
+use Rattle.host_memory.specs.{Buffer, MemoryLimits, is_attach_entry, used_room, pin_count, is_released, AreNumbered, AreTold, IsHistorySound, IsToldBy, IsMemoryKept, buffers_owed, is_pin_for, is_done_for, pins_left, events}
 use Rattle.host_memory.proofs.Pinning.{pins_left_same}
 use Rattle.host_memory.proofs.Pushed.{count_skip, events_pushed}
 use Rattle.host_memory.proofs.Sounding.{sound_pushed}
@@ -24,22 +14,22 @@ use Rattle.host_memory.proofs.Telling.{told_set}
 
 module _ (limits : MemoryLimits) (pool : TableId × ℕ) (l : SwitchedLog MemEntry) (moves left : ℕ) (bs : List Buffer) where
   -- from the history with one entry more to the list with that entry
-  pub kept_pushed : (x : MemEntry) (h : List MemEvent) → events l.items ++ x.what ∷ [] ≡ h → AreTold pool limits.size h bs → IsSound limits.size h → used_room h ≤ limits.room → pin_count h ≤ limits.records → length bs ≤ limits.ids
-      → length (pins_left h) ≡ left → length l.items + 1 + moves + (limits.room + 2 * limits.records) + left + owed bs ≤ l.room + used_room h + 2 * pin_count h
-      → AreNumbered limits.hands (limits.hands + 1) (l.items ++ x ∷ []) → IsKept limits pool (record l { items = l.items ++ x ∷ [] }) moves left bs
+  pub kept_pushed : (x : MemEntry) (h : List MemEvent) → events l.items ++ x.what ∷ [] ≡ h → AreTold pool limits.size h bs → IsHistorySound limits.size h → used_room h ≤ limits.room → pin_count h ≤ limits.records → length bs ≤ limits.ids
+      → length (pins_left h) ≡ left → length l.items + 1 + moves + (limits.room + 2 * limits.records) + left + buffers_owed bs ≤ l.room + used_room h + 2 * pin_count h
+      → AreNumbered limits.hands (limits.hands + 1) (l.items ++ x ∷ []) → IsMemoryKept limits pool (record l { items = l.items ++ x ∷ [] }) moves left bs
   kept_pushed x h is told sound used pinned ids counted room numbered =
       let e : h ≡ events (l.items ++ x ∷ []) = sym (events_pushed l.items x ∙ is) in
       let n : length (l.items ++ x ∷ []) ≡ length l.items + 1 = length-append l.items (x ∷ []) in
       record {
         told = subst (λ z. AreTold pool limits.size z bs) e told;
-        sound = subst (λ z. IsSound limits.size z) e sound;
+        sound = subst (λ z. IsHistorySound limits.size z) e sound;
         room = record {
           used = subst (λ z. used_room z ≤ limits.room) e used;
           pinned = subst (λ z. pin_count z ≤ limits.records) e pinned;
           ids = ids;
           counted = subst (λ z. length (pins_left z) ≡ left) e counted;
-          room = subst (λ z. length (l.items ++ x ∷ []) + moves + (limits.room + 2 * limits.records) + left + owed bs ≤ l.room + used_room z + 2 * pin_count z) e
-              (subst (λ z. z + moves + (limits.room + 2 * limits.records) + left + owed bs ≤ l.room + used_room h + 2 * pin_count h) (sym n) room);
+          room = subst (λ z. length (l.items ++ x ∷ []) + moves + (limits.room + 2 * limits.records) + left + buffers_owed bs ≤ l.room + used_room z + 2 * pin_count z) e
+              (subst (λ z. z + moves + (limits.room + 2 * limits.records) + left + buffers_owed bs ≤ l.room + used_room h + 2 * pin_count h) (sym n) room);
         };
         numbered = numbered;
       }
@@ -47,16 +37,16 @@ module _ (limits : MemoryLimits) (pool : TableId × ℕ) (l : SwitchedLog MemEnt
 -- an entry of buffer i + 1 that is no attach, no pin and no done
 pub record IsPlain (e : MemEvent) (i : ℕ) : Type 0 where
   pub of : buffer_of e ≡ suc i
-  pub attach : is_attach e ≡ false
+  pub attach : is_attach_entry e ≡ false
   pub pin : is_pin e ≡ false
   pub pin_for : (j : ℕ) → is_pin_for j e ≡ false
   pub done_for : (j : ℕ) → is_done_for j e ≡ false
 
-module _ (limits : MemoryLimits) (pool : TableId × ℕ) (l : SwitchedLog MemEntry) (moves left : ℕ) (bs : List Buffer) (k : IsKept limits pool l moves left bs) where
+module _ (limits : MemoryLimits) (pool : TableId × ℕ) (l : SwitchedLog MemEntry) (moves left : ℕ) (bs : List Buffer) (k : IsMemoryKept limits pool l moves left bs) where
   pub kept_plain : (x : MemEntry) (i moves_left : ℕ) (b c : Buffer) → slice_get bs i ≡ Some b → IsPlain x.what i → is_released (suc i) (events l.items) ≡ false → lifts_page limits.size (events l.items) x.what ≡ true
       → IsToldBy pool limits.size (events l.items ++ x.what ∷ []) (suc i) c → used_room (events l.items ++ x.what ∷ []) ≤ limits.room
-      → moves_left + owed (set bs i c) + 1 + used_room (events l.items) ≤ moves + owed bs + used_room (events l.items ++ x.what ∷ [])
-      → AreNumbered limits.hands (limits.hands + 1) (l.items ++ x ∷ []) → IsKept limits pool (record l { items = l.items ++ x ∷ [] }) moves_left left (set bs i c)
+      → moves_left + buffers_owed (set bs i c) + 1 + used_room (events l.items) ≤ moves + buffers_owed bs + used_room (events l.items ++ x.what ∷ [])
+      → AreNumbered limits.hands (limits.hands + 1) (l.items ++ x ∷ []) → IsMemoryKept limits pool (record l { items = l.items ++ x ∷ [] }) moves_left left (set bs i c)
   kept_plain x i moves_left b c at plain unreleased lifts told used owes numbered =
       let h = events l.items in let e = x.what in
       let same : pins_left (h ++ e ∷ []) ≡ pins_left h = pins_left_same h e plain.done_for plain.pin in

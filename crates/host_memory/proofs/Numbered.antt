@@ -3,13 +3,8 @@ use Rattle.std.proofs.Common.{◌≡◌, ℕ, Bool, true, ◌&&◌, List, [], �
 use Rattle.std.specs.List.{list_all, list_any}
 use Rattle.std.proofs.lemmas.Bool.{and_from, and_parts, or_left}
 use Rattle.std.proofs.lemmas.List.Folds.{list_all-append, list_any-append}
-use Rattle.host_model.specs.declared.memory.MemEntry.{MemEntry}
-use Rattle.host_model.specs.declared.memory.MemEvent.{MemEvent}
-use Rattle.host_model.specs.declared.memory.MemEvent.TheVariants.{Lift, Land, Done}
-use Rattle.host_memory.specs.Kept.{AreNumbered}
-use Rattle.host_memory.specs.Numbers.{is_by_its_hand, is_hand_of, is_numbered}
-use Rattle.host_memory.specs.Pins.{is_pin_by}
-use Rattle.host_memory.specs.State.{events}
+use Rattle.host_model.specs.{MemEntry, MemEvent, Lift, Land, Done}
+use Rattle.host_memory.specs.{AreNumbered, is_by_its_hand, is_hand_of, is_numbered, is_pin_by, events}
 use Rattle.host_memory.proofs.Pushed.{events_pushed}
 
 all_pushed : {A : Type 0} (p : A → Bool) (xs : List A) (x : A) → list_all p xs ≡ true → p x ≡ true → list_all p (xs ++ x ∷ []) ≡ true

@@ -8,21 +8,10 @@ use Rattle.std.proofs.lemmas.Bool.{ne_eqb}
 use Rattle.std.proofs.lemmas.Bool.Decides.{eqb_tells}
 use Rattle.std.proofs.lemmas.List.{length-set}
 use Rattle.atomic_table.specs.Seated.{TableId}
-use Rattle.host_log.specs.Switch.{SwitchedLog}
-use Rattle.host_model.specs.declared.memory.MemEntry.{MemEntry}
-use Rattle.host_model.specs.declared.memory.MemEvent.{MemEvent}
-use Rattle.host_model.specs.declared.memory.MemEvent.TheVariants.{Pin}
+use Rattle.host_log.specs.{SwitchedLog}
+use Rattle.host_model.specs.{MemEntry, MemEvent, Pin, count, lifts_page, buffer_of, comes_before_release, is_close_of, is_pin, pins_before_close}
 use Rattle.host_model.specs.declared.memory.MemEvent.TheVariants as mem
-use Rattle.host_model.specs.Lists.{count}
-use Rattle.host_model.specs.Pages.{lifts_page}
-use Rattle.host_model.specs.Releases.{buffer_of, comes_before_release, is_close_of, is_pin, pins_before_close}
-use Rattle.host_memory.specs.declared.buffer.Buffer.{Buffer}
-use Rattle.host_memory.specs.declared.limits.MemoryLimits.{MemoryLimits}
-use Rattle.host_memory.specs.Entries.{is_attach, is_fill_or_show, pin_count}
-use Rattle.host_memory.specs.Held.{closer_by, is_released}
-use Rattle.host_memory.specs.Kept.{IsKept, IsSound}
-use Rattle.host_memory.specs.Pins.{is_pin_for, is_done_for, pins_left, pins_on}
-use Rattle.host_memory.specs.State.{events}
+use Rattle.host_memory.specs.{Buffer, MemoryLimits, is_attach_entry, is_fill_or_show, pin_count, closer_by, is_released, IsMemoryKept, IsHistorySound, is_pin_for, is_done_for, pins_left, pins_on, events}
 use Rattle.host_memory.proofs.Keeping.{kept_pushed}
 use Rattle.host_memory.proofs.Numbered.{numbered_pushed}
 use Rattle.host_memory.proofs.Owing.{owed_set}
@@ -52,7 +41,7 @@ no_done_step : (n : ℕ) (b : Bool) → n ≡ 0 → (b ≡ true → n ≡ 1) →
 no_done_step n true z f = absurd (let o = f refl in omega arith)
 no_done_step n false z f = refl
 
-module _ (size : ℕ) (h : List MemEvent) (s : IsSound size h) (index v by : ℕ) (still : is_released v h ≡ false) (never_closed : list_any (is_close_of v) h ≡ false) (first : count (is_pin_for index) h ≡ 0) where
+module _ (size : ℕ) (h : List MemEvent) (s : IsHistorySound size h) (index v by : ℕ) (still : is_released v h ≡ false) (never_closed : list_any (is_close_of v) h ≡ false) (first : count (is_pin_for index) h ≡ 0) where
   pub no_done : list_any (is_done_for index) h ≡ false
   no_done = no_done_step (count (is_pin_for index) h) (list_any (is_done_for index) h) first (s.done index)
 
@@ -64,7 +53,7 @@ module _ (size : ℕ) (h : List MemEvent) (s : IsSound size h) (index v by : ℕ
   done_step j (inl e) d = absurd (let f : false ≡ true = sym no_done ∙ (ap (λ z. list_any (is_done_for z) h) (sym e.1) ∙ d) in cc)
   done_step j (inr e) d = count_skip (is_pin_for j) h (Pin index v by) e.0 ∙ s.done j d
 
-  pub sound_pinned : IsSound size (h ++ Pin index v by ∷ [])
+  pub sound_pinned : IsHistorySound size (h ++ Pin index v by ∷ [])
   sound_pinned = record {
     released = tests_pushed comes_before_release h (Pin index v by) s.released (ap not still);
     closed = tests_pushed pins_before_close h (Pin index v by) s.closed (ap not never_closed);
@@ -73,10 +62,10 @@ module _ (size : ℕ) (h : List MemEvent) (s : IsSound size h) (index v by : ℕ
     done = λ j d. done_step j (eqb_tells j index) (sym (any_skip (is_done_for j) h (Pin index v by) refl) ∙ d);
   }
 
-module _ (limits : MemoryLimits) (pool : TableId × ℕ) (l : SwitchedLog MemEntry) (moves left : ℕ) (bs : List Buffer) (k : IsKept limits pool l moves left bs) where
+module _ (limits : MemoryLimits) (pool : TableId × ℕ) (l : SwitchedLog MemEntry) (moves left : ℕ) (bs : List Buffer) (k : IsMemoryKept limits pool l moves left bs) where
   pub kept_pinned : (index by i : ℕ) (b : Buffer) → slice_get bs i ≡ Some b → is_released (suc i) (events l.items) ≡ false → list_any (is_close_of (suc i)) (events l.items) ≡ false → count (is_pin_for index) (events l.items) ≡ 0
       → pin_count (events l.items) < limits.records
-      → IsKept limits pool (record l { items = l.items ++ record { hand = limits.hands + 1; what = Pin index (suc i) by } ∷ [] }) moves (left + 1) (set bs i (record b { pins = b.pins + 1 }))
+      → IsMemoryKept limits pool (record l { items = l.items ++ record { hand = limits.hands + 1; what = Pin index (suc i) by } ∷ [] }) moves (left + 1) (set bs i (record b { pins = b.pins + 1 }))
   kept_pinned index by i b at still never_closed first room =
       let h = events l.items in let e = Pin index (suc i) by in let c : Buffer = record b { pins = b.pins + 1 } in
       let none = no_done limits.size h k.sound index (suc i) by still never_closed first in
@@ -84,7 +73,7 @@ module _ (limits : MemoryLimits) (pool : TableId × ℕ) (l : SwitchedLog MemEnt
       let own : pins_on (suc i) (h ++ e ∷ []) ≡ b.pins + 1 = ap (λ ps. count (λ p. buffer_of p == suc i) ps) more ∙ (count_add (λ p. buffer_of p == suc i) (pins_left h) e (eq-eqb (suc i) (suc i) refl) ∙ ap (λ n. n + 1) (k.told.each i b at).pinned) in
       let others : (w : ℕ) → w ≢ suc i → pins_on w (h ++ e ∷ []) ≡ pins_on w h = (λ w n. ap (λ ps. count (λ p. buffer_of p == w) ps) more ∙ count_skip (λ p. buffer_of p == w) (pins_left h) e (ne_eqb (suc i) w (λ z. n (sym z)))) in
       let total : length (pins_left (h ++ e ∷ [])) ≡ left + 1 = ap length more ∙ (length-append (pins_left h) (e ∷ []) ∙ ap (λ n. n + 1) k.room.counted) in
-      let attaches : count is_attach (h ++ e ∷ []) ≡ count is_attach h = count_skip is_attach h e refl in
+      let attaches : count is_attach_entry (h ++ e ∷ []) ≡ count is_attach_entry h = count_skip is_attach_entry h e refl in
       let uses : count is_fill_or_show (h ++ e ∷ []) ≡ count is_fill_or_show h = count_skip is_fill_or_show h e refl in
       let pins : count is_pin (h ++ e ∷ []) ≡ count is_pin h + 1 = count_add is_pin h e refl in
       let owes = owed_set bs i b c at in let used = k.room.used in let enough = k.room.room in

@@ -3,12 +3,10 @@ use Rattle.std.proofs.Common.{◌≡◌, ℕ, ◌≤◌, ◌==◌, Bool, true, f
 use Rattle.std.specs.List.{list_any}
 use Rattle.std.proofs.lemmas.List.Elements.{filter_agree}
 use Rattle.std.proofs.lemmas.List.Folds.{list_any-append}
-use Rattle.host_model.specs.declared.memory.MemEvent.{MemEvent}
-use Rattle.host_model.specs.declared.memory.MemEvent.TheVariants.{Pin, Done}
-use Rattle.host_model.specs.Lists.{count}
-use Rattle.host_model.specs.Releases.{buffer_of, is_pin}
-use Rattle.host_memory.specs.Pins.{is_pin_for, is_done_for, is_left, pins_left, pins_on}
+use Rattle.host_model.specs.{MemEvent, Pin, Done, count, buffer_of, is_pin}
+use Rattle.host_memory.specs.{is_pin_for, is_done_for, is_left, pins_left, pins_on}
 use Rattle.host_memory.proofs.Pushed.{any_skip, filter_skip, filter_add}
+use Rattle.host_log.proofs.Bools.{not_or}
 
 left_same : (h : List MemEvent) (e : MemEvent) → ((i : ℕ) → is_done_for i e ≡ false) → (p : MemEvent) → is_left (h ++ e ∷ []) p ≡ is_left h p
 left_same h e d (Pin index id by) = ap not (any_skip (is_done_for index) h e (d index))
@@ -35,11 +33,6 @@ module _ {A : Type 0} (a b : A → Bool) where
   pub filter_both : (xs : List A) → filter (λ x. a x && b x) xs ≡ filter b (filter a xs)
   filter_both [] = refl
   filter_both (x ∷ xs) = both_step x (filter (λ y. a y && b y) xs) (filter a xs) (a x) (filter_both xs)
-
-not_or : (a b : Bool) → not (a || (b || false)) ≡ (not a && not b)
-not_or true b = refl
-not_or false true = refl
-not_or false false = refl
 
 left_done : (h : List MemEvent) (i v : ℕ) (p : MemEvent) → is_left (h ++ Done i v ∷ []) p ≡ (is_left h p && not (is_pin_for i p))
 left_done h i v (Pin index id by) = ap not (list_any-append (is_done_for index) h (Done i v ∷ [])) ∙ not_or (list_any (is_done_for index) h) (i == index)

@@ -5,13 +5,10 @@ use Rattle.std.specs.Option.{option_map_or}
 use Rattle.std.specs.List.{list_any}
 use Rattle.std.proofs.lemmas.Bool.Decides.{leb_tells}
 use Rattle.atomic_table.specs.Seated.{TableId}
-use Rattle.host_model.specs.declared.memory.MemEvent.{MemEvent}
-use Rattle.host_model.specs.Releases.{buffer_of}
-use Rattle.host_memory.specs.declared.buffer.Buffer.{Buffer}
-use Rattle.host_memory.specs.Held.{Attachment, attachment_by, attachment_of, page_count_of}
-use Rattle.host_memory.specs.Kept.{AreTold, IsToldBy}
+use Rattle.host_model.specs.{MemEvent, buffer_of}
+use Rattle.host_memory.specs.{Buffer, Attachment, attachment_by, attachment_of, page_count_of, AreTold, IsToldBy}
 use Rattle.host_memory.proofs.Absent.{absent_attachment}
-use Rattle.host_memory.proofs.Replacing.{slice_get_some}
+use Rattle.host_log.proofs.Places.{some_at}
 use Rattle.host_memory.proofs.Telling.{leaves_alone, no_map}
 
 module _ (pool : TableId × ℕ) (size : ℕ) (h : List MemEvent) (bs : List Buffer) (t : AreTold pool size h bs) (id : ℕ) where
@@ -28,7 +25,7 @@ module _ (pool : TableId × ℕ) (size : ℕ) (h : List MemEvent) (bs : List Buf
   pub attached_once : length (filter_map (attachment_by id) h) ≤ 1
   attached_once = elim (leb_tells 1 id) as (λ _. length (filter_map (attachment_by id) h) ≤ 1) [
     | inl p ↦ elim (leb_tells id (length bs)) as (λ _. length (filter_map (attachment_by id) h) ≤ 1) [
-      | inl q ↦ (let low = p.1 in let high = q.1 in let found = slice_get_some bs (id - 1) (omega arith) in
+      | inl q ↦ (let low = p.1 in let high = q.1 in let found = some_at bs (id - 1) (omega arith) in
           let named : suc (id - 1) ≡ id = omega arith in
           let one = ap length (subst (λ v. IsToldBy pool size h v found.0) named (t.each (id - 1) found.0 found.1)).attached in omega arith)
       | inr q ↦ never_attached (t.fresh id q.1)
@@ -43,7 +40,7 @@ module _ (pool : TableId × ℕ) (size : ℕ) (h : List MemEvent) (bs : List Buf
   pub few_pages : page_count_of id h ≤ 4294967295
   few_pages = elim (leb_tells 1 id) as (λ _. page_count_of id h ≤ 4294967295) [
     | inl p ↦ elim (leb_tells id (length bs)) as (λ _. page_count_of id h ≤ 4294967295) [
-      | inl q ↦ (let low = p.1 in let high = q.1 in let found = slice_get_some bs (id - 1) (omega arith) in
+      | inl q ↦ (let low = p.1 in let high = q.1 in let found = some_at bs (id - 1) (omega arith) in
           let named : suc (id - 1) ≡ id = omega arith in
           let told : IsToldBy pool size h id found.0 = subst (λ v. IsToldBy pool size h v found.0) named (t.each (id - 1) found.0 found.1) in
           let same : page_count_of id h ≡ found.0.page_count = ap (λ l. option_map_or (λ (a : Attachment). a.pages) (slice_get l 0) 0) told.attached in

@@ -5,11 +5,8 @@ use Rattle.std.specs.List.{list_any, cons_option, last_or}
 use Rattle.std.specs.Prelude.{unwrap_or}
 use Rattle.std.proofs.lemmas.List.{map-append}
 use Rattle.std.proofs.lemmas.List.Elements.{filter_map-append, filter-append}
-use Rattle.host_model.specs.declared.memory.MemEntry.{MemEntry}
-use Rattle.host_model.specs.declared.memory.MemEvent.{MemEvent}
-use Rattle.host_model.specs.Lists.{count, last}
-use Rattle.host_model.specs.Pages.{page_at, put_by}
-use Rattle.host_memory.specs.State.{events}
+use Rattle.host_model.specs.{MemEntry, MemEvent, count, last, page_at, page_put_by}
+use Rattle.host_memory.specs.{events}
 
 module _ {A : Type 0} where
   pub any_skip : (p : A → Bool) (xs : List A) (x : A) → p x ≡ false → list_any p (xs ++ x ∷ []) ≡ list_any p xs
@@ -39,7 +36,7 @@ module _ {A : Type 0} where
   pub filter_map_add : {B : Type 0} (f : A → Option B) (xs : List A) (x : A) (y : B) → f x ≡ Some y → filter_map f (xs ++ x ∷ []) ≡ filter_map f xs ++ y ∷ []
   filter_map_add f xs x y e = filter_map-append f xs (x ∷ []) ∙ ap (λ o. filter_map f xs ++ cons_option o []) e
 
-  last_or_snoc : (o : Option A) (xs : List A) (x : A) → last_or o (xs ++ x ∷ []) ≡ Some x
+  pub last_or_snoc : (o : Option A) (xs : List A) (x : A) → last_or o (xs ++ x ∷ []) ≡ Some x
   last_or_snoc o [] x = refl
   last_or_snoc o (y ∷ ys) x = last_or_snoc (Some y) ys x
 
@@ -50,8 +47,8 @@ pub events_pushed : (xs : List MemEntry) (x : MemEntry) → events (xs ++ x ∷ 
 events_pushed xs x = map-append (λ e. e.what) xs (x ∷ [])
 
 module _ (size : ℕ) (h : List MemEvent) (v k : ℕ) (e : MemEvent) where
-  pub page_same : put_by size v k e ≡ None → page_at size (h ++ e ∷ []) v k ≡ page_at size h v k
-  page_same n = ap (last (replicate size 0)) (filter_map_skip (put_by size v k) h e n)
+  pub page_same : page_put_by size v k e ≡ None → page_at size (h ++ e ∷ []) v k ≡ page_at size h v k
+  page_same n = ap (last (replicate size 0)) (filter_map_skip (page_put_by size v k) h e n)
 
-  pub page_put : (ws : List ℕ) → put_by size v k e ≡ Some ws → page_at size (h ++ e ∷ []) v k ≡ ws
-  page_put ws s = ap (last (replicate size 0)) (filter_map_add (put_by size v k) h e ws s) ∙ last_snoc (replicate size 0) (filter_map (put_by size v k) h) ws
+  pub page_put : (ws : List ℕ) → page_put_by size v k e ≡ Some ws → page_at size (h ++ e ∷ []) v k ≡ ws
+  page_put ws s = ap (last (replicate size 0)) (filter_map_add (page_put_by size v k) h e ws s) ∙ last_snoc (replicate size 0) (filter_map (page_put_by size v k) h) ws

@@ -9,22 +9,16 @@ use Rattle.std.proofs.lemmas.Bool.Decides.{eqb_tells, leb_tells}
 use Rattle.std.proofs.lemmas.List.Folds.{list_any-append}
 use Rattle.std.proofs.lemmas.Option.{slice_get_within}
 use Rattle.atomic_table.specs.Seated.{TableId}
-use Rattle.host_frames.specs.Seats.{SeenPages}
-use Rattle.host_model.specs.declared.memory.MemEvent.{MemEvent}
-use Rattle.host_model.specs.declared.memory.MemEvent.TheVariants.{Attach, Release}
-use Rattle.host_model.specs.Lists.{all_after, count}
-use Rattle.host_model.specs.Releases.{buffer_of, comes_before_release, is_release_of}
-use Rattle.host_memory.specs.declared.buffer.Buffer.{Buffer}
-use Rattle.host_memory.specs.Entries.{given_count}
-use Rattle.host_memory.specs.Held.{Attachment, attachment_by, attachment_of, first_held, holds_pages, is_given_by, is_released}
-use Rattle.host_memory.specs.Kept.{AreTold, IsSound, IsToldBy}
-use Rattle.host_memory.specs.PagesHeld.{outline}
+use Rattle.host_frames.specs.{SeenPages}
+use Rattle.host_model.specs.{MemEvent, Attach, Release, all_after, count, buffer_of, comes_before_release, is_release_of}
+use Rattle.host_memory.specs.{Buffer, given_count, Attachment, attachment_by, attachment_of, first_held, holds_pages, is_given_by, is_released, AreTold, IsHistorySound, IsToldBy, outline}
 use Rattle.host_memory.proofs.Attached.{uncounted}
 use Rattle.host_memory.proofs.Pinning.{some_counted}
 use Rattle.host_memory.proofs.Pushed.{any_add}
-use Rattle.host_memory.proofs.Replacing.{slice_get_some}
+use Rattle.host_log.proofs.Places.{some_at}
 use Rattle.host_memory.proofs.Seeing.{attachment_is, outline_count, pages_held_is}
 use Rattle.host_memory.proofs.Telling.{leaves_alone, no_any, no_map}
+use Rattle.host_log.proofs.Bools.{never_true}
 
 -- ---- the first of a range
 
@@ -95,16 +89,12 @@ cons_count x l b e = ap (λ c. length (cond c (x ∷ l) l)) e
 seen_more : (v : ℕ) (before : List MemEvent) (x : MemEvent) → list_any (is_release_of v) before ≡ true → list_any (is_release_of v) (before ++ x ∷ []) ≡ true
 seen_more v before x e = list_any-append (is_release_of v) before (x ∷ []) ∙ ap (λ b. b || list_any (is_release_of v) (x ∷ [])) e
 
-other_step : (b : Bool) → (b ≡ true → ⊥) → b ≡ false
-other_step true n = absurd (n refl)
-other_step false n = refl
-
 -- none comes after the first
 no_more : (v : ℕ) (before xs : List MemEvent) → all_after comes_before_release before xs ≡ true → list_any (is_release_of v) before ≡ true → count (is_release_of v) xs ≡ 0
 no_more v before [] e seen = refl
 no_more v before (x ∷ xs) e seen =
     let parts = and_parts (comes_before_release before x) (all_after comes_before_release (before ++ x ∷ []) xs) e in
-    let other : is_release_of v x ≡ false = other_step (is_release_of v x) (λ t. clash (list_any (is_release_of v) before) (ap (λ w. not (list_any (is_release_of w) before)) (sym (releases_step v x t)) ∙ parts.0) seen) in
+    let other : is_release_of v x ≡ false = never_true (is_release_of v x) (λ t. clash (list_any (is_release_of v) before) (ap (λ w. not (list_any (is_release_of w) before)) (sym (releases_step v x t)) ∙ parts.0) seen) in
     cons_count x (filter (is_release_of v) xs) (is_release_of v x) other ∙ no_more v (before ++ x ∷ []) xs parts.1 (seen_more v before x seen)
 
 once_step : (x : MemEvent) (l : List MemEvent) (b : Bool) → (b ≡ true → length l ≡ 0) → length l ≤ 1 → length (cond b (x ∷ l) l) ≤ 1
@@ -131,7 +121,7 @@ mapped_step x l m None false s e = e
 mapped_step x l m (Some y) true s e = omega arith
 mapped_step x l m (Some y) false s e = absurd (cc)
 
-given_times : (v : ℕ) (h : List MemEvent) → count (is_given_by v) h ≡ length (filter_map (attachment_by v) h)
+pub given_times : (v : ℕ) (h : List MemEvent) → count (is_given_by v) h ≡ length (filter_map (attachment_by v) h)
 given_times v [] = refl
 given_times v (x ∷ xs) = mapped_step x (filter (is_given_by v) xs) (filter_map (attachment_by v) xs) (attachment_by v x) (is_given_by v x) (given_test v x) (given_times v xs)
 
@@ -140,7 +130,7 @@ released_step true o a is e = refl
 released_step false o a is e = absurd (let f : true ≡ false = ap (λ x. option_map_or (λ n. true) (option_map_or (λ y. Some y.pages) x None) false) (sym is) ∙ e in cc)
 
 -- where no buffer holds pages, each that was given is released once
-module _ (pool : TableId × ℕ) (size : ℕ) (h : List MemEvent) (bs : List Buffer) (t : AreTold pool size h bs) (s : IsSound size h) (none : first_held h ≡ None) where
+module _ (pool : TableId × ℕ) (size : ℕ) (h : List MemEvent) (bs : List Buffer) (t : AreTold pool size h bs) (s : IsHistorySound size h) (none : first_held h ≡ None) where
   once_given : (v i : ℕ) (b : Buffer) → suc i ≡ v → slice_get bs i ≡ Some b → count (is_release_of v) h ≡ count (is_given_by v) h
   once_given v i b named at =
       let told : IsToldBy pool size h v b = subst (λ w. IsToldBy pool size h w b) named (t.each i b at) in
@@ -159,7 +149,7 @@ module _ (pool : TableId × ℕ) (size : ℕ) (h : List MemEvent) (bs : List Buf
   pub released_once : (v : ℕ) → count (is_release_of v) h ≡ count (is_given_by v) h
   released_once v = elim (leb_tells 1 v) as (λ _. count (is_release_of v) h ≡ count (is_given_by v) h) [
     | inl p ↦ elim (leb_tells v (length bs)) as (λ _. count (is_release_of v) h ≡ count (is_given_by v) h) [
-      | inl q ↦ (let low = p.1 in let high = q.1 in let found = slice_get_some bs (v - 1) (omega arith) in once_given v (v - 1) found.0 (omega arith) found.1)
+      | inl q ↦ (let low = p.1 in let high = q.1 in let found = some_at bs (v - 1) (omega arith) in once_given v (v - 1) found.0 (omega arith) found.1)
       | inr q ↦ never_given v (t.fresh v q.1)
     ]
     | inr p ↦ never_given v (let low = p.1 in let z : 0 ≡ v = omega arith in subst (λ w. list_any (λ e. buffer_of e == w) h ≡ false) z t.never)

@@ -1,5 +1,5 @@
 -- A list of which one element was replaced, or that has one more.
-use Rattle.std.proofs.Common.{◌≡◌, ◌≢◌, ◌⊎◌, inl, inr, ℕ, zero, suc, ◌<◌, List, [], ◌∷◌, ◌++◌, length, set, Some, refl, ap, arith}
+use Rattle.std.proofs.Common.{◌≡◌, ◌≢◌, ◌⊎◌, inl, inr, ℕ, zero, suc, List, [], ◌∷◌, ◌++◌, length, set, Some, refl, ap, arith}
 use Rattle.std.specs.Prelude.{slice_get}
 
 module _ {A : Type 0} where
@@ -20,9 +20,3 @@ module _ {A : Type 0} where
   set_same [] i x e = absurd (cc)
   set_same (z ∷ zs) zero x e = let is : x ≡ z = cc in ap (λ y. y ∷ zs) is
   set_same (z ∷ zs) (suc i) x e = ap (λ l. z ∷ l) (set_same zs i x e)
-
-  -- an element that stands there
-  pub slice_get_some : (xs : List A) (i : ℕ) → i < length xs → (x : A) × (slice_get xs i ≡ Some x)
-  slice_get_some [] i lt = absurd (omega arith)
-  slice_get_some (x ∷ xs) zero lt = (x, refl)
-  slice_get_some (x ∷ xs) (suc i) lt = slice_get_some xs i (omega arith)

@@ -3,13 +3,9 @@ use Rattle.std.proofs.Common.{◌≡◌, ℕ, Bool, true, false, if◌then◌els
 use Rattle.std.specs.Prelude.{slice_get}
 use Rattle.std.specs.Option.{option_map_or}
 use Rattle.atomic_table.specs.Seated.{TableId}
-use Rattle.host_frames.specs.Seats.{SeenPages}
-use Rattle.host_model.specs.declared.memory.MemEvent.{MemEvent}
-use Rattle.host_model.specs.Verdict.{is_within}
-use Rattle.host_memory.specs.declared.buffer.Buffer.{Buffer}
-use Rattle.host_memory.specs.Held.{Attachment, attachment_of, closer_of, is_released, pages_held, has_blocks, standing_in, is_before_close, pages_for}
-use Rattle.host_memory.specs.Kept.{IsToldBy, listed}
-use Rattle.host_memory.specs.PagesHeld.{outline, has_pages_at, pages_standing}
+use Rattle.host_frames.specs.{SeenPages}
+use Rattle.host_model.specs.{MemEvent, is_within}
+use Rattle.host_memory.specs.{Buffer, Attachment, attachment_of, closer_of, is_released, pages_held, has_blocks, standing_in, is_before_close, pages_for, IsToldBy, listed, outline, has_pages_at, pages_standing}
 
 abbrev pub outline_count : Option ((TableId × ℕ) × ℕ) → Option ℕ
 outline_count None = None

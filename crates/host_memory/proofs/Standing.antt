@@ -5,14 +5,9 @@ use Rattle.std.specs.List.{list_any}
 use Rattle.std.specs.Option.{option_map_or, is_some}
 use Rattle.std.proofs.lemmas.Option.{slice_get_read}
 use Rattle.atomic_table.specs.Seated.{TableId}
-use Rattle.host_log.specs.Switch.{SwitchedLog}
-use Rattle.host_model.specs.declared.memory.MemEntry.{MemEntry}
-use Rattle.host_model.specs.Releases.{is_close_of}
-use Rattle.host_memory.specs.declared.buffer.Buffer.{Buffer}
-use Rattle.host_memory.specs.declared.limits.MemoryLimits.{MemoryLimits}
-use Rattle.host_memory.specs.Held.{attachment_of, closer_of, is_before_close, is_released, pages_for, standing_in}
-use Rattle.host_memory.specs.Kept.{IsKept, IsToldBy, listed}
-use Rattle.host_memory.specs.State.{events}
+use Rattle.host_log.specs.{SwitchedLog}
+use Rattle.host_model.specs.{MemEntry, is_close_of}
+use Rattle.host_memory.specs.{Buffer, MemoryLimits, attachment_of, closer_of, is_before_close, is_released, pages_for, standing_in, IsMemoryKept, IsToldBy, listed, events}
 use Rattle.host_memory.proofs.Absent.{absent_standing}
 use Rattle.host_memory.proofs.Pinned.{unclosed}
 use Rattle.host_memory.proofs.Present.{present}
@@ -26,7 +21,7 @@ nothing : (o : Option ℕ) → is_some o ≡ true → o ≡ None → ⊥
 nothing None s n = absurd (cc)
 nothing (Some x) s n = absurd (cc)
 
-module _ (limits : MemoryLimits) (pool : TableId × ℕ) (l : SwitchedLog MemEntry) (moves left : ℕ) (bs : List Buffer) (k : IsKept limits pool l moves left bs)
+module _ (limits : MemoryLimits) (pool : TableId × ℕ) (l : SwitchedLog MemEntry) (moves left : ℕ) (bs : List Buffer) (k : IsMemoryKept limits pool l moves left bs)
     (id j : ℕ) (stands : is_some (standing_in id j (events l.items)) ≡ true) where
   pub stands_given : (1 ≤ id) × (id ≤ length bs)
   stands_given = present pool limits.size (events l.items) bs k.told id (λ a. nothing (standing_in id j (events l.items)) stands (absent_standing id j (events l.items) a))

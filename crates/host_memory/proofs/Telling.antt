@@ -9,27 +9,20 @@ use Rattle.std.proofs.lemmas.Grind.{get_or-set_at}
 use Rattle.std.proofs.lemmas.Option.{slice_get_within}
 use Rattle.std.proofs.lemmas.List.{get_or-set_other, length-set, length-replicate}
 use Rattle.atomic_table.specs.Seated.{TableId}
-use Rattle.host_frames.specs.Seats.{SeenPages}
-use Rattle.host_model.specs.declared.memory.MemEvent.{MemEvent}
-use Rattle.host_model.specs.declared.memory.MemEvent.TheVariants.{Attach, Fill, Show, Pin, Lift, Land, Done, Release}
+use Rattle.host_frames.specs.{SeenPages}
+use Rattle.host_model.specs.{MemEvent, Attach, Fill, Show, Pin, Lift, Land, Done, Release, page_at, page_put_by, buffer_of, is_release_of}
 use Rattle.host_model.specs.declared.memory.MemEvent.TheVariants as mem
-use Rattle.host_model.specs.Pages.{page_at, put_by}
-use Rattle.host_model.specs.Releases.{buffer_of, is_release_of}
-use Rattle.host_memory.specs.declared.buffer.Buffer.{Buffer}
-use Rattle.host_memory.specs.Held.{attachment_by, closer_by, is_released}
-use Rattle.host_memory.specs.Kept.{AreTold, IsToldBy, listed}
-use Rattle.host_memory.specs.PagesHeld.{contents_held, page_held, outline, is_among, page_filled}
-use Rattle.host_memory.specs.Pins.{pins_on}
+use Rattle.host_memory.specs.{Buffer, attachment_by, closer_by, is_released, AreTold, IsToldBy, listed, contents_held, page_held, outline, is_among, page_filled, pins_on, is_attach_entry}
 use Rattle.host_memory.proofs.Pushed.{any_add, any_skip, count_skip, filter_map_add, filter_map_skip, page_same, page_put}
 use Rattle.host_memory.proofs.Replacing.{slice_get-set}
-use Rattle.host_memory.specs.Entries.{is_attach}
+use Rattle.host_log.proofs.Bools.{or_parts}
 
 -- an entry that tells nothing of buffer v but what pins it
 pub record LeavesAlone (size v : ℕ) (e : MemEvent) : Type 0 where
   pub attachment : attachment_by v e ≡ None
   pub closer : closer_by v e ≡ None
   pub release : is_release_of v e ≡ false
-  pub put : (k : ℕ) → put_by size v k e ≡ None
+  pub put : (k : ℕ) → page_put_by size v k e ≡ None
 
 pub leaves_alone : (size v : ℕ) (e : MemEvent) → (buffer_of e == v) ≡ false → LeavesAlone size v e
 leaves_alone size v (Attach id pages from) n = record { attachment = ap (λ b. then_some b (record { pages = pages; from = from })) n; closer = refl; release = refl; put = λ k. refl }
@@ -69,7 +62,7 @@ module _ (pool : TableId × ℕ) (size : ℕ) (h : List MemEvent) (v : ℕ) (b :
     few = t.few;
   }
 
-  fill_step : (block cnt byte k : ℕ) (t : Bool) → put_by size v k (Fill v block cnt byte) ≡ then_some t (replicate size byte) → (old : List ℕ) → length old ≡ size → old ≡ page_at size h v k
+  fill_step : (block cnt byte k : ℕ) (t : Bool) → page_put_by size v k (Fill v block cnt byte) ≡ then_some t (replicate size byte) → (old : List ℕ) → length old ≡ size → old ≡ page_at size h v k
       → (if t then replicate (length old) byte else old) ≡ page_at size (h ++ Fill v block cnt byte ∷ []) v k
   fill_step block cnt byte k true put old long is = ap (λ n. replicate n byte) long ∙ sym (page_put size h v k (Fill v block cnt byte) (replicate size byte) put)
   fill_step block cnt byte k false put old long is = is ∙ sym (page_same size h v k (Fill v block cnt byte) put)
@@ -83,7 +76,7 @@ module _ (pool : TableId × ℕ) (size : ℕ) (h : List MemEvent) (v : ℕ) (b :
       → pins_on v (h ++ Fill v block cnt byte ∷ []) ≡ pins_on v h → IsToldBy pool size h v b → IsToldBy pool size (h ++ Fill v block cnt byte ∷ []) v (record b { pages = q })
   told_filled block cnt byte q o f p t = let e = Fill v block cnt byte in
       let n = same_length q b.pages o in
-      let put : (k : ℕ) → put_by size v k e ≡ then_some (is_among block cnt k) (replicate size byte) = (λ k. ap (λ z. then_some (z && nat_le block k && nat_lt k (block + cnt)) (replicate size byte)) (eq-eqb v v refl)) in
+      let put : (k : ℕ) → page_put_by size v k e ≡ then_some (is_among block cnt k) (replicate size byte) = (λ k. ap (λ z. then_some (z && nat_le block k && nat_lt k (block + cnt)) (replicate size byte)) (eq-eqb v v refl)) in
       record {
         attached = filter_map_skip (attachment_by v) h e refl ∙ t.attached;
         closed = filter_map_skip (closer_by v) h e refl ∙ t.closed;
@@ -99,11 +92,11 @@ module _ (pool : TableId × ℕ) (size : ℕ) (h : List MemEvent) (v : ℕ) (b :
       → get_or (set cs block ws) k [] ≡ page_at size (h ++ Land index j v block ws ∷ []) v k
   land_step index j block k ws cs lt (inl s) is =
       let e = Land index j v block ws in
-      let put : put_by size v k e ≡ Some ws = ap (λ z. then_some (z && block == k) ws) (eq-eqb v v refl) ∙ ap (λ z. then_some z ws) s.0 in
+      let put : page_put_by size v k e ≡ Some ws = ap (λ z. then_some (z && block == k) ws) (eq-eqb v v refl) ∙ ap (λ z. then_some z ws) s.0 in
       get_or-set_at cs block k ws [] (sym s.1) lt ∙ sym (page_put size h v k e ws put)
   land_step index j block k ws cs lt (inr s) is =
       let e = Land index j v block ws in
-      let put : put_by size v k e ≡ None = ap (λ z. then_some (z && block == k) ws) (eq-eqb v v refl) ∙ ap (λ z. then_some z ws) s.0 in
+      let put : page_put_by size v k e ≡ None = ap (λ z. then_some (z && block == k) ws) (eq-eqb v v refl) ∙ ap (λ z. then_some z ws) s.0 in
       get_or-set_other cs block k ws [] (λ z. s.1 (sym z)) ∙ (is ∙ sym (page_same size h v k e put))
 
   landed_long : (block k : ℕ) (ws : List ℕ) (cs : List (List ℕ)) → block < length cs → length ws ≡ size → (t : ((block == k) ≡ true) × (block ≡ k) ⊎ ((block == k) ≡ false) × (block ≢ k)) → length (get_or cs k []) ≡ size → length (get_or (set cs block ws) k []) ≡ size
@@ -165,10 +158,6 @@ module _ (pool : TableId × ℕ) (size : ℕ) (h : List MemEvent) (v : ℕ) (b :
     few = t.few;
   }
 
-or_parts : (a b : Bool) → (a || b) ≡ false → (a ≡ false) × (b ≡ false)
-or_parts true b e = absurd (cc)
-or_parts false b e = (refl, e)
-
 -- of a buffer that has no entries nothing is told
 module _ (v : ℕ) where
   pub no_map : {B : Type 0} (f : MemEvent → Option B) → ((e : MemEvent) → (buffer_of e == v) ≡ false → f e ≡ None) → (h : List MemEvent) → list_any (λ e. buffer_of e == v) h ≡ false → filter_map f h ≡ []
@@ -181,10 +170,10 @@ module _ (v : ℕ) where
 
 module _ (pool : TableId × ℕ) (size : ℕ) (h : List MemEvent) (bs : List Buffer) (t : AreTold pool size h bs) where
   -- buffer i + 1 has an entry more
-  pub told_set : (i : ℕ) (b c : Buffer) (e : MemEvent) → slice_get bs i ≡ Some b → buffer_of e ≡ suc i → is_attach e ≡ false
+  pub told_set : (i : ℕ) (b c : Buffer) (e : MemEvent) → slice_get bs i ≡ Some b → buffer_of e ≡ suc i → is_attach_entry e ≡ false
       → ((w : ℕ) → w ≢ suc i → pins_on w (h ++ e ∷ []) ≡ pins_on w h) → IsToldBy pool size (h ++ e ∷ []) (suc i) c → AreTold pool size (h ++ e ∷ []) (set bs i c)
   told_set i b c e at of n p told = record {
-    given = count_skip is_attach h e n ∙ (t.given ∙ sym (length-set bs i c));
+    given = count_skip is_attach_entry h e n ∙ (t.given ∙ sym (length-set bs i c));
     each = λ j d g. elim (slice_get-set bs i j c d g) as (λ _. IsToldBy pool size (h ++ e ∷ []) (suc j) d) [
       | inl q ↦ subst (λ k. IsToldBy pool size (h ++ e ∷ []) (suc k) d) (sym q.0) (subst (λ x. IsToldBy pool size (h ++ e ∷ []) (suc i) x) q.1 told)
       | inr q ↦ (let apart : suc j ≢ suc i = (λ z. q.0 (omega arith)) in

@@ -6,20 +6,9 @@ use Rattle.std.proofs.lemmas.Bool.{eqb-true, ne_eqb}
 use Rattle.std.proofs.lemmas.Bool.Decides.{eqb_tells}
 use Rattle.std.proofs.lemmas.List.{length-set}
 use Rattle.atomic_table.specs.Seated.{TableId}
-use Rattle.host_log.specs.Switch.{SwitchedLog}
-use Rattle.host_model.specs.declared.memory.MemEntry.{MemEntry}
-use Rattle.host_model.specs.declared.memory.MemEvent.{MemEvent}
-use Rattle.host_model.specs.declared.memory.MemEvent.TheVariants.{Done}
-use Rattle.host_model.specs.Lists.{count}
-use Rattle.host_model.specs.Pages.{lifts_page}
-use Rattle.host_model.specs.Releases.{buffer_of, comes_before_release, is_pin, pins_before_close}
-use Rattle.host_memory.specs.declared.buffer.Buffer.{Buffer}
-use Rattle.host_memory.specs.declared.limits.MemoryLimits.{MemoryLimits}
-use Rattle.host_memory.specs.Entries.{is_attach, is_fill_or_show}
-use Rattle.host_memory.specs.Held.{is_released}
-use Rattle.host_memory.specs.Kept.{IsKept, IsSound}
-use Rattle.host_memory.specs.Pins.{is_done_for, is_left, is_pin_by, is_pin_for, is_pinned_by, pins_left, pins_on}
-use Rattle.host_memory.specs.State.{events}
+use Rattle.host_log.specs.{SwitchedLog}
+use Rattle.host_model.specs.{MemEntry, MemEvent, Done, count, lifts_page, buffer_of, comes_before_release, is_pin, pins_before_close}
+use Rattle.host_memory.specs.{Buffer, MemoryLimits, is_attach_entry, is_fill_or_show, is_released, IsMemoryKept, IsHistorySound, is_done_for, is_left, is_pin_by, is_pin_for, is_pinned_by, pins_left, pins_on, events}
 use Rattle.host_memory.proofs.Carrying.{any_of_part, pin_for, pin_on}
 use Rattle.host_memory.proofs.Keeping.{kept_pushed}
 use Rattle.host_memory.proofs.Numbered.{numbered_pushed}
@@ -47,7 +36,7 @@ module _ {A : Type 0} where
   length_cut [] x ys = omega arith
   length_cut (z ∷ zs) x ys = let more = length_cut zs x ys in omega arith
 
-module _ (size : ℕ) (h : List MemEvent) (s : IsSound size h) (hand index v : ℕ) (still : is_released v h ≡ false) (pinned : is_pinned_by hand index v h ≡ true) where
+module _ (size : ℕ) (h : List MemEvent) (s : IsHistorySound size h) (hand index v : ℕ) (still : is_released v h ≡ false) (pinned : is_pinned_by hand index v h ≡ true) where
   few : count (is_pin_for index) (pins_left h) ≤ 1
   few = let part = count_le (is_pin_for index) (is_left h) h in let one = s.one_pin index in omega arith
 
@@ -83,7 +72,7 @@ module _ (size : ℕ) (h : List MemEvent) (s : IsSound size h) (hand index v : �
   done_step j (inl e) d = ap (λ z. count (is_pin_for z) h) (sym e.1) ∙ one
   done_step j (inr e) d = s.done j (sym (any_skip (is_done_for j) h (Done index v) e.0) ∙ d)
 
-  sound_done : IsSound size (h ++ Done index v ∷ [])
+  sound_done : IsHistorySound size (h ++ Done index v ∷ [])
   sound_done = record {
     released = tests_pushed comes_before_release h (Done index v) s.released (ap not still);
     closed = tests_pushed pins_before_close h (Done index v) s.closed refl;
@@ -92,7 +81,7 @@ module _ (size : ℕ) (h : List MemEvent) (s : IsSound size h) (hand index v : �
     done = λ j d. count_skip (is_pin_for j) h (Done index v) refl ∙ done_step j (eqb_tells index j) d;
   }
 
-module _ (limits : MemoryLimits) (pool : TableId × ℕ) (l : SwitchedLog MemEntry) (moves left : ℕ) (bs : List Buffer) (k : IsKept limits pool l moves left bs) (hand index i : ℕ) (b : Buffer) (at : slice_get bs i ≡ Some b)
+module _ (limits : MemoryLimits) (pool : TableId × ℕ) (l : SwitchedLog MemEntry) (moves left : ℕ) (bs : List Buffer) (k : IsMemoryKept limits pool l moves left bs) (hand index i : ℕ) (b : Buffer) (at : slice_get bs i ≡ Some b)
     (still : is_released (suc i) (events l.items) ≡ false) (pinned : is_pinned_by hand index (suc i) (events l.items) ≡ true) where
   pub left_some : 1 ≤ left
   left_some = let total = total_done limits.size (events l.items) k.sound hand index (suc i) still pinned in let is = k.room.counted in omega arith
@@ -100,13 +89,13 @@ module _ (limits : MemoryLimits) (pool : TableId × ℕ) (l : SwitchedLog MemEnt
   pub done_fits : length l.items < l.room
   done_fits = let some = left_some in let used = k.room.used in let pins = k.room.pinned in let room = k.room.room in omega arith
 
-  pub kept_unpinned : IsKept limits pool (record l { items = l.items ++ record { hand = hand; what = Done index (suc i) } ∷ [] }) moves (left - 1) (set bs i (record b { pins = b.pins - 1 }))
+  pub kept_unpinned : IsMemoryKept limits pool (record l { items = l.items ++ record { hand = hand; what = Done index (suc i) } ∷ [] }) moves (left - 1) (set bs i (record b { pins = b.pins - 1 }))
   kept_unpinned =
       let h = events l.items in let e = Done index (suc i) in let c : Buffer = record b { pins = b.pins - 1 } in
       let own : pins_on (suc i) (h ++ e ∷ []) ≡ b.pins - 1 = (let is = own_done limits.size h k.sound hand index (suc i) still pinned in let was = (k.told.each i b at).pinned in omega arith) in
       let total : length (pins_left (h ++ e ∷ [])) ≡ left - 1 = (let is = total_done limits.size h k.sound hand index (suc i) still pinned in let was = k.room.counted in omega arith) in
       let some = left_some in
-      let attaches : count is_attach (h ++ e ∷ []) ≡ count is_attach h = count_skip is_attach h e refl in
+      let attaches : count is_attach_entry (h ++ e ∷ []) ≡ count is_attach_entry h = count_skip is_attach_entry h e refl in
       let uses : count is_fill_or_show (h ++ e ∷ []) ≡ count is_fill_or_show h = count_skip is_fill_or_show h e refl in
       let pins : count is_pin (h ++ e ∷ []) ≡ count is_pin h = count_skip is_pin h e refl in
       let owes = owed_set bs i b c at in let used = k.room.used in let few = k.room.pinned in let enough = k.room.room in

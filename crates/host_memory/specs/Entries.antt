@@ -5,9 +5,9 @@ use Rattle.host_model.specs.declared.memory.MemEvent.TheVariants.{Attach, Fill, 
 use Rattle.host_model.specs.Lists.{count}
 use Rattle.host_model.specs.Releases.{is_pin}
 
-abbrev pub is_attach : MemEvent → Bool
-is_attach (Attach id pages from) = true
-is_attach _ = false
+abbrev pub is_attach_entry : MemEvent → Bool
+is_attach_entry (Attach id pages from) = true
+is_attach_entry _ = false
 
 abbrev pub is_fill_or_show : MemEvent → Bool
 is_fill_or_show (Fill id block count byte) = true
@@ -16,11 +16,11 @@ is_fill_or_show _ = false
 
 -- how many buffers were given
 abbrev pub given_count : List MemEvent → ℕ
-given_count h = count is_attach h
+given_count h = count is_attach_entry h
 
 -- how much of its room the client has used
 abbrev pub used_room : List MemEvent → ℕ
-used_room h = 3 * count is_attach h + count is_fill_or_show h
+used_room h = 3 * count is_attach_entry h + count is_fill_or_show h
 
 abbrev pub pin_count : List MemEvent → ℕ
 pin_count h = count is_pin h

@@ -1,5 +1,6 @@
 -- Which buffers hold pages, and for which records they stand.
-use Rattle.std.specs.Prelude.{ℕ, Bool, true, false, ◌==◌, nat_le, nat_lt, if◌then◌else◌, List, filter, filter_map, slice_get, Option, Some, None}
+use Rattle.std.specs.Prelude.{ℕ, Bool, true, false, ◌==◌, nat_le, nat_lt, if◌then◌else◌, List}
+use Rattle.std.specs.Prelude.{filter, filter_map, slice_get, Option, Some, None}
 use Rattle.std.specs.Bool.{then_some}
 use Rattle.std.specs.List.{list_any, range_with_len}
 use Rattle.std.specs.Option.{option_map_or}
@@ -36,7 +37,8 @@ is_released v h = list_any (is_release_of v) h
 
 -- the pages of buffer v, which was given and isn't released
 abbrev pub pages_held : ℕ → List MemEvent → Option ℕ
-pages_held v h = if is_released v h then None else option_map_or (λ a. Some a.pages) (attachment_of v h) None
+pages_held v h =
+    if is_released v h then None else option_map_or (λ a. Some a.pages) (attachment_of v h) None
 
 -- buffer v holds pages, and these blocks are within them
 abbrev pub has_blocks : ℕ → List MemEvent → ℕ → ℕ → Bool
@@ -49,10 +51,13 @@ is_before_close i c = option_map_or (λ j. nat_le i j) c true
 abbrev pub pages_for : ℕ → Attachment → Option ℕ
 pages_for i a = then_some (nat_le a.from i) a.pages
 
--- The pages of buffer v, where it stands for record i: it was attached before that record was sent, no record before it
--- closed it, and it isn't released.
+-- The pages of buffer v, where it stands for record i: it was attached before that record was sent,
+-- no record before it closed it, and it isn't released.
 abbrev pub standing_in : ℕ → ℕ → List MemEvent → Option ℕ
-standing_in v i h = if is_released v h then None else (if is_before_close i (closer_of v h) then option_map_or (pages_for i) (attachment_of v h) None else None)
+standing_in v i h =
+    if is_released v h then None
+    else (if is_before_close i (closer_of v h)
+    then option_map_or (pages_for i) (attachment_of v h) None else None)
 
 abbrev pub holds_pages : ℕ → List MemEvent → Bool
 holds_pages v h = option_map_or (λ n. true) (pages_held v h) false

@@ -20,8 +20,8 @@ abbrev pub history : MemoryState → List MemEvent
 history m = events m.entries
 
 -- the bytes of a page
-abbrev pub size_of : MemoryState → ℕ
-size_of m = m.plan.limits.size
+abbrev pub block_size_of : MemoryState → ℕ
+block_size_of m = m.plan.limits.size
 
 -- the numbers of the client and of the admissions
 abbrev pub client_of : MemoryState → ℕ

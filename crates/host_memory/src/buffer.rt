@@ -1,9 +1,12 @@
 //! One attached buffer.
-ghost use Rattle.std.specs.Prelude.{◌≡◌, ◌==◌, ℕ, if◌then◌else◌, None, Some, ◌+◌, ◌*◌, ◌<◌, ◌≤◌, [], length, replicate, slice_set, slice_index_or, flat_map, IsTrue};
+ghost use Rattle.std.specs.Prelude.{◌≡◌, ◌==◌, ℕ, if◌then◌else◌, None, Some, ◌+◌, ◌*◌, ◌<◌, ◌≤◌};
+ghost use Rattle.std.specs.Prelude.{[], length, replicate, slice_set, slice_index_or, flat_map};
+ghost use Rattle.std.specs.Prelude.{IsTrue};
 ghost use Rattle.std.specs.List.{range_with_len};
 ghost use Rattle.std.specs.Option.{is_some};
 ghost use Rattle.host_frames.specs.Seats.{contents, pages_pool};
-ghost use Rattle.host_memory.specs.PagesHeld.{contents_held, has_pages_at, outline, page_filled, page_held, pages_standing};
+ghost use Rattle.host_memory.specs.PagesHeld.{contents_held, has_pages_at, outline, page_filled};
+ghost use Rattle.host_memory.specs.PagesHeld.{page_held, pages_standing};
 
 use host_frames::Pages;
 
@@ -47,7 +50,9 @@ impl Buffer {
 
     /// Its pages, where it stands for the record of that index.
     pub(crate) fn standing_for(&self, index: u32) -> Option<u32>
-        ensures { result ≡ pages_standing self.now.pages self.now.closer self.now.from self.now.page_count index }
+        ensures { result
+            ≡ pages_standing self.now.pages self.now.closer self.now.from self.now.page_count
+            index }
     {
         let open = self.closer.is_none_or(|closer| index <= closer);
         if self.holds_pages() && open && self.from <= index {
@@ -63,7 +68,8 @@ impl Buffer {
         requires sum { block + count < 4294967296 }
         ensures same { self.new ≡ record self.old { pages = self.new.pages } }
         ensures outline { outline self.new.pages ≡ outline self.old.pages }
-        ensures pages { (k : ℕ) → page_held self.new.pages k ≡ page_filled block count byte self.old.pages k }
+        ensures pages { (k : ℕ)
+            → page_held self.new.pages k ≡ page_filled block count byte self.old.pages k }
     {
         if let Some(pages) = &mut self.pages {
             fill_pages(pages, block, count, byte);
@@ -96,7 +102,8 @@ impl Buffer {
         requires long { length from.now ≡ length (page_held self.old.pages block) }
         ensures same { self.new ≡ record self.old { pages = self.new.pages } }
         ensures outline { outline self.new.pages ≡ outline self.old.pages }
-        ensures pages { contents_held self.new.pages ≡ slice_set (contents_held self.old.pages) block from.now }
+        ensures pages { contents_held self.new.pages
+            ≡ slice_set (contents_held self.old.pages) block from.now }
     {
         if let Some(pages) = &mut self.pages {
             put_page(pages, block, from);
@@ -107,7 +114,8 @@ impl Buffer {
     pub(crate) fn show(&self, block: u32, count: u32, size: u32, into: &mut [u8])
         requires blocks { block + count ≤ length (contents_held self.now.pages) }
         requires sum { block + count < 4294967296 }
-        requires pages { (k : ℕ) → k < length (contents_held self.now.pages) → length (page_held self.now.pages k) ≡ size }
+        requires pages { (k : ℕ) → k < length (contents_held self.now.pages)
+            → length (page_held self.now.pages k) ≡ size }
         requires into { length into.old ≡ count * size }
         ensures { into.new ≡ flat_map (page_held self.now.pages) (range_with_len block count) }
     {
@@ -128,7 +136,9 @@ fn fill_bytes(page: &mut [u8], byte: u8)
 fn fill_page(pages: &mut Pages, block: u32, byte: u8)
     requires { block < length (contents pages.old) }
     ensures pool { pages_pool pages.new ≡ pages_pool pages.old }
-    ensures pages { contents pages.new ≡ slice_set (contents pages.old) block (replicate (length (slice_index_or (contents pages.old) block [])) byte) }
+    ensures pages { contents pages.new
+        ≡ slice_set (contents pages.old) block
+        (replicate (length (slice_index_or (contents pages.old) block [])) byte) }
 {
     fill_bytes(pages.page_mut(block), byte);
 }
@@ -147,7 +157,8 @@ fn fill_pages(pages: &mut Pages, block: u32, count: u32, byte: u8)
     requires sum { block + count < 4294967296 }
     ensures pool { pages_pool pages.new ≡ pages_pool pages.old }
     ensures length { length (contents pages.new) ≡ length (contents pages.old) }
-    ensures pages { (k : ℕ) → page_held (Some pages.new) k ≡ page_filled block count byte (Some pages.old) k }
+    ensures pages { (k : ℕ)
+        → page_held (Some pages.new) k ≡ page_filled block count byte (Some pages.old) k }
 {
     for i in block..block + count {
         fill_page(pages, i, byte);

@@ -1,12 +1,13 @@
 //! What the client does: it attaches buffers, fills them and looks at them.
-ghost use Rattle.std.specs.Prelude.{◌≡◌, ◌+◌, ◌*◌, ◌<◌, ◌≤◌, [], ◌∷◌, ◌++◌, true, false, length, replicate, Some, None, IsTrue, MatchOption};
+ghost use Rattle.std.specs.Prelude.{◌≡◌, ◌+◌, ◌*◌, ◌<◌, ◌≤◌, [], ◌∷◌, ◌++◌, true, false, length};
+ghost use Rattle.std.specs.Prelude.{replicate, Some, None, IsTrue, MatchOption};
 ghost use Rattle.host_frames.specs.Seats.{contents, pages_pool};
 ghost use Rattle.host_model.specs.declared.memory.MemEvent.TheVariants.{Attach, Fill, Show};
 ghost use Rattle.host_model.specs.Pages.{found_by};
-ghost use Rattle.host_turn.specs.History.{Adds};
+ghost use Rattle.host_log.specs.History.{Adds};
 ghost use Rattle.host_memory.specs.Entries.{given_count, used_room};
 ghost use Rattle.host_memory.specs.Held.{attachment_of, has_blocks, standing_in};
-ghost use Rattle.host_memory.specs.State.{history, size_of, client_of};
+ghost use Rattle.host_memory.specs.State.{history, block_size_of, client_of};
 
 use crate::buffer::Buffer;
 use crate::memory::Memory;
@@ -20,9 +21,17 @@ impl Memory {
         requires ids { given_count (history self.old) < self.old.plan.limits.ids }
         requires some { 0 < length (contents pages) }
         requires pool { pages_pool pages ≡ self.old.plan.pool }
-        requires blank { contents pages ≡ replicate (length (contents pages)) (replicate (size_of self.old) 0) }
+        requires blank { contents pages
+            ≡ replicate (length (contents pages)) (replicate (block_size_of self.old) 0) }
         ensures id { result ≡ given_count (history self.old) + 1 }
-        ensures entry { self.new ≡ record self.old { entries = self.old.entries ++ record { hand = client_of self.old; what = Attach result (length (contents pages)) from } ∷ [] } }
+        ensures entry { self.new
+            ≡ record self.old {
+              entries = self.old.entries
+                  ++ record {
+                    hand = client_of self.old;
+                    what = Attach result (length (contents pages)) from;
+                  } ∷ [];
+            } }
         ensures adds { Adds (λ e. e.hand) (client_of self.old) self.old.entries self.new.entries }
     {
         let page_count = pages.len();
@@ -46,7 +55,8 @@ impl Memory {
         id
     }
 
-    /// The pages of a buffer that stands for the record of that index: it was attached before that record was sent, no record before closed it, and its pages are here.
+    /// The pages of a buffer that stands for the record of that index: it was attached before that
+    /// record was sent, no record before closed it, and its pages are here.
     pub fn standing(&self, id: u16, index: u32) -> Option<u32>
         ensures { result ≡ standing_in id index (history self.now) }
     {
@@ -54,11 +64,17 @@ impl Memory {
         buffer.standing_for(index)
     }
 
-    /// Writes one value into all bytes of these blocks, unless the buffer has no pages, or not all of these.
+    /// Writes one value into all bytes of these blocks, unless the buffer has no pages, or not all
+    /// of these.
     pub fn fill(&mut self, id: u16, block: u32, count: u32, byte: u8) -> bool
         requires { used_room (history self.old) + 1 ≤ self.old.plan.limits.room }
         ensures answer { result ≡ has_blocks id (history self.old) block count }
-        ensures done { IsTrue result → self.new ≡ record self.old { entries = self.old.entries ++ record { hand = client_of self.old; what = Fill id block count byte } ∷ [] } }
+        ensures done { IsTrue result
+            → self.new
+            ≡ record self.old {
+              entries = self.old.entries
+                  ++ record { hand = client_of self.old; what = Fill id block count byte } ∷ [];
+            } }
         ensures not_done { result ≡ false → self.new ≡ self.old }
         ensures adds { Adds (λ e. e.hand) (client_of self.old) self.old.entries self.new.entries }
     {
@@ -82,10 +98,17 @@ impl Memory {
     /// Copies these blocks, unless the buffer has no pages, or not all of these.
     pub fn show(&mut self, id: u16, block: u32, count: u32, into: &mut [u8]) -> bool
         requires room { used_room (history self.old) + 1 ≤ self.old.plan.limits.room }
-        requires into { length into.old ≡ count * size_of self.old }
+        requires into { length into.old ≡ count * block_size_of self.old }
         ensures answer { result ≡ has_blocks id (history self.old) block count }
-        ensures bytes { IsTrue result → found_by (size_of self.old) (history self.old) (Show id block count) ≡ Some into.new }
-        ensures done { IsTrue result → self.new ≡ record self.old { entries = self.old.entries ++ record { hand = client_of self.old; what = Show id block count } ∷ [] } }
+        ensures bytes { IsTrue result
+            → found_by (block_size_of self.old) (history self.old) (Show id block count)
+            ≡ Some into.new }
+        ensures done { IsTrue result
+            → self.new
+            ≡ record self.old {
+              entries = self.old.entries
+                  ++ record { hand = client_of self.old; what = Show id block count } ∷ [];
+            } }
         ensures not_done { result ≡ false → (self.new ≡ self.old) × (into.new ≡ into.old) }
         ensures adds { Adds (λ e. e.hand) (client_of self.old) self.old.entries self.new.entries }
     {
@@ -117,9 +140,11 @@ impl Memory {
 
     // Where a buffer stands that holds these blocks.
     fn place_of_blocks(&self, id: u16, block: u32, count: u32) -> Option<usize>
-        ensures { MatchOption result
-            (has_blocks id (history self.now) block count ≡ false)
-            (λ i. (i + 1 ≡ id) × (i < given_count (history self.now)) × (has_blocks id (history self.now) block count ≡ true) × (block + count < 4294967296)) }
+        ensures { MatchOption result (has_blocks id (history self.now) block count ≡ false)
+            (λ i.
+            (i + 1 ≡ id) × (i < given_count (history self.now))
+            × (has_blocks id (history self.now) block count ≡ true)
+            × (block + count < 4294967296)) }
     {
         let place = self.place(id)?;
         if self.buffers[place].has_blocks(block, count) {

@@ -1,4 +1,5 @@
-//! The attached buffers of one session, with pages of the pool, and the history of what was done to them.
+//! The attached buffers of one session, with pages of the pool, and the history of what was done to
+//! them.
 #![tactic(auto)]
 
 mod buffer;

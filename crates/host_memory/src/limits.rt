@@ -33,7 +33,8 @@ impl MemoryLimits {
     }
 }
 
-/// The fixed part of a memory: what it was made with, and which pool its pages are of. No value of it is made.
+/// The fixed part of a memory: what it was made with, and which pool its pages are of. No value of
+/// it is made.
 pub struct MemoryPlan {
     pub limits: MemoryLimits,
     pub pool: PoolName,

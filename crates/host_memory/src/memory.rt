@@ -1,5 +1,6 @@
 //! The buffers of a session as a state with a history.
-ghost use Rattle.std.specs.Prelude.{◌≡◌, ℕ, ◌<◌, ◌≤◌, [], filter_map, length, max, IfOk, IsTrue, OnOk, OnErr};
+ghost use Rattle.std.specs.Prelude.{◌≡◌, ℕ, ◌<◌, ◌≤◌, [], filter_map, length, max, IfOk, IsTrue};
+ghost use Rattle.std.specs.Prelude.{OnOk, OnErr};
 ghost use Rattle.std.specs.List.{list_all};
 ghost use Rattle.host_frames.specs.Seats.{page_size, pool_id};
 ghost use Rattle.host_memory.specs.Entries.{given_count};
@@ -38,13 +39,21 @@ impl Model for Memory {
     ghost use Rattle.std.specs.Prelude.{◌≡◌, ◌≤◌, vec_capacity};
     ghost use Rattle.host_frames.specs.Seats.{pool_id};
     ghost use Rattle.host_memory.specs.State.{MemoryState};
-    ghost use Rattle.host_memory.specs.Kept.{IsKept};
+    ghost use Rattle.host_memory.specs.Kept.{IsMemoryKept};
 
     ghost Value = { MemoryState };
 
-    ghost view = { λ m. record { plan = record { limits = m.limits; pool = pool_id m.pool.value }; entries = m.entries.items; moves = m.moves } };
+    ghost view = { λ m.
+        record {
+          plan = record { limits = m.limits; pool = pool_id m.pool.value };
+          entries = m.entries.items;
+          moves = m.moves;
+        } };
 
-    ghost invariant = { λ m. IsKept m.limits (pool_id m.pool.value) m.entries m.moves m.pins m.buffers.items × (m.limits.ids ≤ vec_capacity m.buffers) × (m.limits.ids ≤ 65535) × (m.limits.hands ≤ 4294967293) × (m.entries.kept ≡ m.limits.keeps) };
+    ghost invariant = { λ m.
+        IsMemoryKept m.limits (pool_id m.pool.value) m.entries m.moves m.pins m.buffers.items
+        × (m.limits.ids ≤ vec_capacity m.buffers) × (m.limits.ids ≤ 65535)
+        × (m.limits.hands ≤ 4294967293) × (m.entries.kept ≡ m.limits.keeps) };
 }
 
 impl Story for Memory {
@@ -101,7 +110,8 @@ impl Memory {
 
     /// Says what is true of every memory, for callers that have it from a book. It does nothing.
     pub fn vouch(&self)
-        ensures numbers { IsTrue (list_all (is_numbered (client_of self.now) (admissions_of self.now)) self.now.entries) }
+        ensures numbers { IsTrue (list_all
+            (is_numbered (client_of self.now) (admissions_of self.now)) self.now.entries) }
         ensures attached { (v : ℕ) → length (filter_map (attachment_by v) (history self.now)) ≤ 1 }
         ensures one_pin { (i : ℕ) → count (is_pin_for i) (history self.now) ≤ 1 }
         ensures done { IsTrue (list_all (is_by_its_hand (history self.now)) self.now.entries) }
@@ -124,8 +134,8 @@ impl Memory {
         self.pins
     }
 
-    /// Makes room for `n` lifts and landings. It has `Oom` for an answer only for want of memory, and takes none where they fit
-    /// already.
+    /// Makes room for `n` lifts and landings. It has `Oom` for an answer only for want of memory,
+    /// and takes none where they fit already.
     pub fn make_room(&mut self, n: u64) -> Result<(), Oom>
         ensures ok { OnOk result (self.new ≡ record self.old { moves = max self.old.moves n }) }
         ensures full { OnErr result (self.old.moves < n) }

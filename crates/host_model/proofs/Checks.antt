@@ -2,9 +2,7 @@
 use Rattle.std.proofs.Common.{◌≡◌, suc, Bool, true, false, cond, List, [], ◌∷◌, Some, refl, ap}
 use Rattle.host_record.specs.declared.status.Status.{Status}
 use Rattle.host_model.specs.declared.verdict.Verdict.{Verdict}
-use Rattle.host_model.specs.declared.verdict.Verdict.TheVariants.{Accepted, Refused}
-use Rattle.host_model.specs.Laws.{FirstCheckDecides, IsByFirstCheck}
-use Rattle.host_model.specs.Verdict.{checks, first_check, judged}
+use Rattle.host_model.specs.{Accepted, Refused, FirstCheckDecides, IsByFirstCheck, checks, first_check, judged}
 
 -- a check that is passed changes nothing
 later : (c : Bool × Status) (cs : List (Bool × Status)) (verdict : Verdict) → c.0 ≡ false → IsByFirstCheck cs verdict → IsByFirstCheck (c ∷ cs) verdict

@@ -2,7 +2,7 @@
 use Rattle.std.proofs.Common.{◌≡◌, ℕ, zero, suc, ◌+◌, ◌≤◌, ◌<◌, Bool, true, false, cond, nat_le, List, [], ◌∷◌, length, filter, refl, sym, ap, ◌∙◌, arith, IsTrue}
 use Rattle.std.proofs.lemmas.Bool.{leb-true}
 use Rattle.std.specs.List.{list_all}
-use Rattle.host_model.specs.Lists.{count, within_counts}
+use Rattle.host_model.specs.{count, within_counts}
 use Rattle.host_model.proofs.ListTests.{both}
 
 module _ {A : Type 0} (eq : A → A → Bool) (same : (x : A) → eq x x ≡ true) (sound : (x y : A) → eq x y ≡ true → x ≡ y) where

@@ -5,16 +5,9 @@ use Rattle.std.proofs.lemmas.Bool.{lt-ltb}
 use Rattle.std.proofs.lemmas.Slice.Eq.{bytes_eq-Decides}
 use Rattle.std.specs.List.{range_with_len}
 use Rattle.std.specs.Str.{bytes_eq}
-use Rattle.host_record.specs.declared.finish.Finish.TheVariants.{Drain}
-use Rattle.host_model.specs.Answers.{answer_bytes, due}
-use Rattle.host_model.specs.Groups.{is_owing, owed}
-use Rattle.host_model.specs.LawfulSession.{IsLawfulSession}
-use Rattle.host_model.specs.Laws.{AnswersComeOnce}
-use Rattle.host_model.specs.Lists.{count, within_counts}
-use Rattle.host_model.specs.Taking.{is_drain}
-use Rattle.host_model.specs.Log.{request_at, requests, received, sent}
+use Rattle.host_record.specs.{Drain, request_of}
+use Rattle.host_model.specs.{answer_bytes, due, is_owing, owed, IsLawfulSession, AnswersComeOnce, count, within_counts, is_drain, request_at, requests, received, sent}
 use Rattle.host_model.specs.Session.{Session}
-use Rattle.host_record.specs.Request.{request_of}
 use Rattle.host_model.proofs.ListTests.{both}
 use Rattle.host_model.proofs.Counts.{counted, length-within_counts}
 

@@ -1,18 +1,15 @@
 -- What stays as logs and stories grow at their end.
-use Rattle.std.proofs.Common.{◌≡◌, ℕ, zero, suc, ◌+◌, ◌≤◌, ◌<◌, Bool, ◌&&◌, List, [], ◌∷◌, ◌++◌, Option, None, is_some, position, cond, length, get_or, refl, sym, ap, ◌∙◌, arith, length-append, append_assoc, append-nil}
+use Rattle.std.proofs.Common.{◌≡◌, ℕ, zero, suc, ◌+◌, ◌≤◌, ◌<◌, Bool, ◌&&◌, List, [], ◌∷◌, ◌++◌, Option, None, is_some, position, cond, length, get_or, refl, sym, ap, ◌∙◌, arith, length-append, append_assoc, append-nil, inl, inr, ◌⊎◌}
 use Rattle.std.specs.List.{zip}
 use Rattle.std.proofs.Math.Bool.{and-true, and_assoc}
-use Rattle.std.proofs.Common.{inl, inr, ◌⊎◌}
 use Rattle.std.proofs.Math.Nat.{eq-or-lt_of_le}
 use Rattle.std.proofs.Math.Seq.{get_or-append_seam}
 use Rattle.std.proofs.Math.ListN.{get_or-append}
 use Rattle.host_block.specs.declared.range.Range.{Range}
 use Rattle.host_record.specs.declared.request.Request.{Request}
 use Rattle.host_model.specs.declared.verdict.Verdict.{Verdict}
-use Rattle.host_model.specs.Lists.{all_after, all_with_before}
-use Rattle.host_model.specs.Log.{request_at}
-use Rattle.host_model.specs.Verdict.{verdicts_on, verdict_after, is_closed, judged, closes}
-use Rattle.host_record.specs.Request.{request_of}
+use Rattle.host_model.specs.{all_after, all_with_before, request_at, verdicts_on, verdict_after, is_closed, judged, closes}
+use Rattle.host_record.specs.{request_of}
 
 -- the last element passes, and those before it as before
 all_after-push : {A : Type 0} (test : List A → A → Bool) (before xs : List A) (x : A) → all_after test before (xs ++ x ∷ []) ≡ (all_after test before xs && test (before ++ xs) x)

@@ -1,30 +1,19 @@
 -- The steps of a lawful session stay inside its partition.
-use Rattle.std.proofs.Common.{◌≡◌, ℕ, zero, suc, ◌+◌, ◌-◌, ◌<◌, Bool, true, false, not, ◌==◌, ◌&&◌, nat_le, nat_lt, subst, List, [], ◌∷◌, Option, Some, None, cond, length, map, get_or, refl, sym, ap, ◌∙◌, arith, IsTrue, IsFalse}
+use Rattle.std.proofs.Common.{◌≡◌, ℕ, zero, suc, ◌+◌, ◌-◌, ◌<◌, Bool, true, false, not, ◌==◌, ◌&&◌, nat_le, nat_lt, subst, List, [], ◌∷◌, Option, Some, None, cond, length, map, ◌++◌, get_or, refl, sym, ap, ◌∙◌, arith, IsTrue, IsFalse}
 use Rattle.std.specs.List.{AllByRecursion, list_all, range_with_len}
 use Rattle.host_block.specs.declared.range.Range.{Range}
-use Rattle.host_block.specs.declared.op.Op.{Op}
+use Rattle.host_block.specs.{Op}
 use Rattle.host_block.specs.declared.op.Op.TheVariants as op
-use Rattle.host_model.specs.declared.step.Step.{Step}
-use Rattle.host_record.specs.declared.opcode.Opcode.{Opcode}
-use Rattle.host_record.specs.declared.opcode.Opcode.TheVariants.{Read, Write, Flush, Trim, Close}
+use Rattle.host_model.specs.{Step, Accepted, Refused, StaysIn, StepsStayInside, Ask, asked, asked_by, flush_after, flush_ask, for_each_block, carries_out, is_step_for, same_op, steps_of, asked_in, IsLawfulSession, is_nil, requests, request_at, given_before, row_at, is_within, checks, first_check, judged, verdict_of}
+use Rattle.host_record.specs.{Opcode, Read, Write, Flush, Trim, Close, opcode, is_forced, names_blocks, Io}
 use Rattle.host_record.specs.declared.request.Request.{Request}
 use Rattle.host_record.specs.declared.status.Status.{Status}
 use Rattle.host_model.specs.declared.verdict.Verdict.{Verdict}
-use Rattle.host_model.specs.declared.verdict.Verdict.TheVariants.{Accepted, Refused}
-use Rattle.host_model.specs.Laws.{StaysIn, StepsStayInside}
-use Rattle.host_model.specs.Carrying.{Ask, asked, asked_by, for_each_block, carries_out, is_step_for, same_op, steps_of, asked_in}
-use Rattle.host_model.specs.LawfulSession.{IsLawfulSession}
-use Rattle.host_model.specs.Lists.{is_nil}
-use Rattle.host_model.specs.Log.{requests, request_at, given_before}
 use Rattle.host_model.specs.Session.{Session}
-use Rattle.host_model.specs.Taking.{row_at}
-use Rattle.host_model.specs.Verdict.{is_within, checks, first_check, judged, verdict_of}
-use Rattle.host_record.specs.Command.{opcode, names_blocks}
 use Rattle.std.proofs.lemmas.Bool.{leb-true, eqb-true, eq-eqb, ltb-true}
 use Rattle.host_model.proofs.Growth.{verdict_at}
 use Rattle.host_model.proofs.ListTests.{both}
 use Rattle.std.proofs.lemmas.List.{get_or-map}
-use Rattle.host_record.specs.declared.status.Status.TheVariants.{Io}
 
 -- where nothing was refused, each check was answered no
 refused_or : (b : Bool) (status : Status) (v : Verdict) → cond b (Refused status) v ≡ Accepted → IsFalse b × (v ≡ Accepted)
@@ -68,10 +57,19 @@ blocks_stay : (range : Range) (kind : Op) (r : Request) → IsTrue (is_within r.
     → AllByRecursion (λ (a : Ask). StaysIn range a.op a.block) (for_each_block kind range r)
 blocks_stay range kind r w = mapped (λ a. StaysIn range a.op a.block) _ 0 r.length (λ k p. block_stays range kind r.dev_offset r.length k w (omega (arith, p)))
 
+-- a flush is on no block
+flush_stays : (range : Range) (forced : Bool) (k : ℕ) → AllByRecursion (λ (a : Ask). StaysIn range a.op a.block) (cond forced (flush_ask k ∷ []) [])
+flush_stays range true k = (tt, tt)
+flush_stays range false k = tt
+
+all_joined : (P : Ask → Type 0) (xs ys : List Ask) → AllByRecursion P xs → AllByRecursion P ys → AllByRecursion P (xs ++ ys)
+all_joined P [] ys h e = e
+all_joined P (x ∷ xs) ys h e = (h.0, all_joined P xs ys h.1 e)
+
 asked_stay : (range : Range) (r : Request) (o : Option Opcode) → (names_blocks o ≡ true → IsTrue (is_within r.dev_offset r.length range.count))
     → AllByRecursion (λ (a : Ask). StaysIn range a.op a.block) (asked_by o range r)
 asked_stay range r (Some Read) h = blocks_stay range op.Read r (h refl)
-asked_stay range r (Some Write) h = blocks_stay range op.Write r (h refl)
+asked_stay range r (Some Write) h = all_joined (λ a. StaysIn range a.op a.block) (for_each_block op.Write range r) (flush_after r) (blocks_stay range op.Write r (h refl)) (flush_stays range (is_forced r) r.length)
 asked_stay range r (Some Trim) h = blocks_stay range op.Trim r (h refl)
 asked_stay range r (Some Flush) h = (tt, tt)
 asked_stay range r (Some Close) h = tt

@@ -4,11 +4,7 @@ use Rattle.std.proofs.Math.Bool.{and-true, and-false}
 use Rattle.std.proofs.lemmas.Bool.{le-leb, lt-leb}
 use Rattle.std.proofs.lemmas.List.Elements.{filter_map-append}
 use Rattle.std.specs.List.{cons_option}
-use Rattle.host_model.specs.declared.event.Event.{Event}
-use Rattle.host_model.specs.declared.event.Event.TheVariants.{Attached, NotAttached, Filled, Sent, Received, Shown, Drained, Aborted}
-use Rattle.host_model.specs.ClientEntries.{entry_after, told, lent_by, lent_in}
-use Rattle.host_model.specs.Lists.{map_after}
-use Rattle.host_model.specs.Log.{sent, sent_bytes, pages_of, before_sent, given_before}
+use Rattle.host_model.specs.{Event, Attached, NotAttached, Filled, Sent, Received, Shown, Drained, Aborted, entry_after, told, lent_by, lent_in, map_after, sent, sent_bytes, pages_of, before_sent, given_before}
 
 -- how many records were sent after one more event
 sent-push : (before : List Event) (e : Event) (n : ℕ) → length (sent before) ≡ n → length (sent (before ++ e ∷ [])) ≡ n + length (cons_option (sent_bytes e) [])

@@ -4,8 +4,7 @@ use Rattle.std.proofs.lemmas.Bool.{ltb-true, lt-ltb}
 use Rattle.std.proofs.lemmas.List.Elements.{All-contains, All-contains_itself}
 use Rattle.std.proofs.lemmas.List.Sums.{AllPass-from_list_all, list_all-from_AllPass}
 use Rattle.std.specs.List.{AllByRecursion, list_all, list_any, range_with_len}
-use Rattle.host_model.specs.Laws.{StandBefore}
-use Rattle.host_model.specs.Lists.{all_before, below, implies}
+use Rattle.host_model.specs.{StandBefore, all_before, below, implies}
 
 pub both : (a b : Bool) → a && b ≡ true → IsTrue a × IsTrue b
 both true true e = (refl, refl)

@@ -1,10 +1,7 @@
 -- The order rule as a sentence.
 use Rattle.std.proofs.Common.{◌≡◌, ℕ, ◌+◌, ◌<◌, true, ◌&&◌, IsTrue, nat_lt, take, arith}
 use Rattle.std.proofs.lemmas.Bool.{ltb-true, lt-ltb}
-use Rattle.host_model.specs.Laws.{IsInOrder, OrderIsKept}
-use Rattle.host_model.specs.Lists.{all_before}
-use Rattle.host_model.specs.Log.{sending}
-use Rattle.host_model.specs.Order.{HadBefore, KeepsOrder, had_before, had_in, step_places, entry_places, told_by}
+use Rattle.host_model.specs.{IsInOrder, OrderIsKept, all_before, sending, HadBefore, KeepsOrder, had_before, had_in, step_places, entry_places, told_by}
 use Rattle.host_model.specs.Session.{Session}
 use Rattle.host_model.proofs.ListTests.{and-from, any_below, before-from, both, found_below, implied, implies-from, stand_before}
 

@@ -1,5 +1,7 @@
 -- How a record is carried out by steps of the device, and its outcome.
-use Rattle.std.specs.Prelude.{ℕ, ◌+◌, Bool, true, false, ◌==◌, ◌&&◌, if◌then◌else◌, List, [], ◌∷◌, map, filter, length, nat_lt, Option, Some, None, IsTrue, ◌≡◌, ◌<◌}
+use Rattle.std.specs.Prelude.{ℕ, ◌+◌, Bool, true, false, ◌==◌, ◌&&◌, if◌then◌else◌, List, [], ◌∷◌}
+use Rattle.std.specs.Prelude.{◌++◌, map, filter, length, nat_lt, Option, Some, None, IsTrue, ◌≡◌}
+use Rattle.std.specs.Prelude.{◌<◌}
 use Rattle.std.specs.List.{list_all}
 use Rattle.host_block.specs.declared.range.Range.{Range}
 use Rattle.host_block.specs.declared.op.Op.{Op}
@@ -9,7 +11,7 @@ use Rattle.host_record.specs.declared.opcode.Opcode.{Opcode}
 use Rattle.host_record.specs.declared.opcode.Opcode.TheVariants.{Read, Write, Flush, Trim, Close}
 use Rattle.host_record.specs.declared.status.Status.{Status}
 use Rattle.host_record.specs.declared.status.Status.TheVariants as status
-use Rattle.host_record.specs.Command.{opcode}
+use Rattle.host_record.specs.Command.{opcode, is_forced}
 use Rattle.host_model.specs.declared.step.Step.{Step}
 use Rattle.host_model.specs.declared.verdict.Verdict.{Verdict}
 use Rattle.host_model.specs.declared.verdict.Verdict.TheVariants.{Accepted, Refused}
@@ -26,14 +28,23 @@ pub record Ask : Type 0 where
 
 -- one step for each block, by rising k
 abbrev pub for_each_block : Op → Range → Request → List Ask
-for_each_block kind range r = map (λ k. record { k = k; op = kind; block = range.first + r.dev_offset + k }) (below r.length)
+for_each_block kind range r =
+    map (λ k. record { k = k; op = kind; block = range.first + r.dev_offset + k }) (below r.length)
+
+-- a flush, with this number
+abbrev pub flush_ask : ℕ → Ask
+flush_ask k = record { k = k; op = op.Flush; block = 0 }
+
+-- a forced write has a flush after its last block
+abbrev pub flush_after : Request → List Ask
+flush_after r = if is_forced r then flush_ask r.length ∷ [] else []
 
 -- the steps that an accepted request asks for, in order
 abbrev pub asked_by : Option Opcode → Range → Request → List Ask
 asked_by (Some Read) range r = for_each_block op.Read range r
-asked_by (Some Write) range r = for_each_block op.Write range r
+asked_by (Some Write) range r = for_each_block op.Write range r ++ flush_after r
 asked_by (Some Trim) range r = for_each_block op.Trim range r
-asked_by (Some Flush) range r = record { k = 0; op = op.Flush; block = 0 } ∷ []
+asked_by (Some Flush) range r = flush_ask 0 ∷ []
 asked_by (Some Close) range r = []
 asked_by None range r = []
 
@@ -56,7 +67,8 @@ is_step_for ask step = step.k == ask.k && same_op step.op ask.op && step.block =
 abbrev pub carries_out : List Ask → List Step → Bool
 carries_out asks [] = true
 carries_out [] (step ∷ steps) = false
-carries_out (ask ∷ asks) (step ∷ steps) = is_step_for ask step && (if step.faulted then is_nil steps else carries_out asks steps)
+carries_out (ask ∷ asks) (step ∷ steps) =
+    is_step_for ask step && (if step.faulted then is_nil steps else carries_out asks steps)
 
 -- how it ended: at a fault, short of memory, or with every step made
 abbrev pub ended : List Ask → List Step → Status
@@ -83,7 +95,8 @@ asked_in s i = asked (row_at s.rows i).verdict s.range (request_at (requests s.l
 -- record i is carried out by its steps, and has their outcome
 pub record IsCarriedOut (s : Session) (i : ℕ) : Type 0 where
   pub steps : IsTrue (carries_out (asked_in s i) (steps_of i s.steps))
-  pub outcome : (row_at s.rows i).outcome ≡ outcome_of (row_at s.rows i).verdict (asked_in s i) (steps_of i s.steps)
+  pub outcome : (row_at s.rows i).outcome
+      ≡ outcome_of (row_at s.rows i).verdict (asked_in s i) (steps_of i s.steps)
 
 -- each record taken is carried out, and no other has a step
 pub record AreCarriedOut (s : Session) : Type 0 where

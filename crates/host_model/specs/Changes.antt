@@ -4,7 +4,8 @@ use Rattle.host_block.specs.Changes.{Change}
 use Rattle.host_model.specs.declared.step.Step.{Step}
 
 abbrev pub change_of : Step → Change
-change_of step = record { op = step.op; block = step.block; bytes = step.bytes; faulted = step.faulted }
+change_of step =
+    record { op = step.op; block = step.block; bytes = step.bytes; faulted = step.faulted }
 
 abbrev pub changes_of : List Step → List Change
 changes_of steps = map change_of steps

@@ -1,5 +1,6 @@
 -- What a client did to its buffers, as its log and the buffers' history tell it.
-use Rattle.std.specs.Prelude.{◌≡◌, ℕ, Bool, true, false, ◌==◌, ◌&&◌, nat_le, if◌then◌else◌, List, length, filter, filter_map, slice_get, Option, Some, None}
+use Rattle.std.specs.Prelude.{◌≡◌, ℕ, Bool, true, false, ◌==◌, ◌&&◌, nat_le, if◌then◌else◌, List}
+use Rattle.std.specs.Prelude.{length, filter, filter_map, slice_get, Option, Some, None}
 use Rattle.std.specs.List.{range_with_len}
 use Rattle.host_model.specs.declared.event.Event.{Event}
 use Rattle.host_model.specs.declared.event.Event.TheVariants.{Attached, Filled, Shown}

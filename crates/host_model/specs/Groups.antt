@@ -1,5 +1,6 @@
 -- Groups: which records are answered together.
-use Rattle.std.specs.Prelude.{ℕ, ◌+◌, Bool, false, not, ◌==◌, ◌&&◌, ◌||◌, nat_le, if◌then◌else◌, List, length, take, filter, find, Option, Some, None}
+use Rattle.std.specs.Prelude.{ℕ, ◌+◌, Bool, false, not, ◌==◌, ◌&&◌, ◌||◌, nat_le, if◌then◌else◌}
+use Rattle.std.specs.Prelude.{List, length, take, filter, find, Option, Some, None}
 use Rattle.host_record.specs.declared.request.Request.{Request}
 use Rattle.host_record.specs.Command.{is_grouped, is_last}
 use Rattle.host_model.specs.Lists.{count, below}
@@ -23,18 +24,22 @@ closings g rs = count (λ r. is_closing r && r.group == g) rs
 
 -- a member's instance: its group, and how often that group was closed before it
 abbrev pub instance_of : List Request → ℕ → Option (ℕ × ℕ)
-instance_of rs i = let r = request_at rs i in if is_member r then Some (r.group, closings r.group (take i rs)) else None
+instance_of rs i =
+    let r = request_at rs i in
+    if is_member r then Some (r.group, closings r.group (take i rs)) else None
 
 -- whether both are members of one instance
 abbrev pub same_instance : Option (ℕ × ℕ) → Option (ℕ × ℕ) → Bool
 same_instance (Some a) (Some b) = a.0 == b.0 && a.1 == b.1
 same_instance _ _ = false
 
--- whether the answer to record i is the answer to record k: i is k, lone, or the member that closes k's instance
+-- whether the answer to record i is the answer to record k: i is k, lone, or the member that closes
+-- k's instance
 abbrev pub answers_for : List Request → ℕ → ℕ → Bool
 answers_for rs i k =
     let r = request_at rs i in
-    if is_member r then is_closing r && same_instance (instance_of rs i) (instance_of rs k) else i == k
+    if is_member r then is_closing r && same_instance (instance_of rs i) (instance_of rs k)
+    else i == k
 
 -- the records that the answer to record i answers, in order
 abbrev pub answered_by : List Request → ℕ → List ℕ

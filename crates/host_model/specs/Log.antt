@@ -1,5 +1,6 @@
 -- What a client's log tells of what was sent, received and given.
-use Rattle.std.specs.Prelude.{ℕ, zero, suc, ◌∷◌, ◌==◌, if◌then◌else◌, List, [], map, length, filter_map, get_or, slice_get, Option, Some, None}
+use Rattle.std.specs.Prelude.{ℕ, zero, suc, ◌∷◌, ◌==◌, if◌then◌else◌, List, [], map, length}
+use Rattle.std.specs.Prelude.{filter_map, get_or, slice_get, Option, Some, None}
 use Rattle.host_record.specs.declared.request.Request.{Request}
 use Rattle.host_record.specs.Request.{request_of}
 use Rattle.host_model.specs.declared.event.Event.{Event}

@@ -1,5 +1,6 @@
 -- What the pages of a buffer contain, by the buffers' history.
-use Rattle.std.specs.Prelude.{◌≡◌, ℕ, ◌+◌, Bool, true, ◌==◌, ◌&&◌, nat_le, nat_lt, List, filter_map, flat_map, replicate, Option, Some, None, IsTrue}
+use Rattle.std.specs.Prelude.{◌≡◌, ℕ, ◌+◌, Bool, true, ◌==◌, ◌&&◌, nat_le, nat_lt, List, filter_map}
+use Rattle.std.specs.Prelude.{flat_map, replicate, Option, Some, None, IsTrue}
 use Rattle.std.specs.Bool.{then_some}
 use Rattle.std.specs.List.{range_with_len}
 use Rattle.std.specs.Str.{bytes_eq}
@@ -11,18 +12,20 @@ use Rattle.host_model.specs.Lists.{all_with_before, last, map_with_before}
 use Rattle.host_model.specs.Session.{Session}
 
 -- what an entry puts into page n of buffer v
-abbrev pub put_by : ℕ → ℕ → ℕ → MemEvent → Option (List ℕ)
-put_by size v n (Fill id block count byte) = then_some (id == v && nat_le block n && nat_lt n (block + count)) (replicate size byte)
-put_by size v n (Land index k id block bytes) = then_some (id == v && block == n) bytes
-put_by size v n _ = None
+abbrev pub page_put_by : ℕ → ℕ → ℕ → MemEvent → Option (List ℕ)
+page_put_by size v n (Fill id block count byte) =
+    then_some (id == v && nat_le block n && nat_lt n (block + count)) (replicate size byte)
+page_put_by size v n (Land index k id block bytes) = then_some (id == v && block == n) bytes
+page_put_by size v n _ = None
 
 -- page n of buffer v after these entries: what the last of them put there, else zero bytes
 abbrev pub page_at : ℕ → List MemEvent → ℕ → ℕ → List ℕ
-page_at size history v n = last (replicate size 0) (filter_map (put_by size v n) history)
+page_at size history v n = last (replicate size 0) (filter_map (page_put_by size v n) history)
 
 -- what a show finds after these entries
 abbrev pub found_by : ℕ → List MemEvent → MemEvent → Option (List ℕ)
-found_by size before (Show v block count) = Some (flat_map (λ n. page_at size before v n) (range_with_len block count))
+found_by size before (Show v block count) =
+    Some (flat_map (λ n. page_at size before v n) (range_with_len block count))
 found_by size before _ = None
 
 -- what the client was shown

@@ -1,8 +1,10 @@
 -- When a buffer is closed and its pages go home.
-use Rattle.std.specs.Prelude.{ℕ, Bool, true, false, not, ◌==◌, nat_eq, List, filter_map, Option, Some, None, IsTrue}
+use Rattle.std.specs.Prelude.{ℕ, Bool, true, false, not, ◌==◌, nat_eq, List, filter_map, Option}
+use Rattle.std.specs.Prelude.{Some, None, IsTrue}
 use Rattle.std.specs.List.{list_any}
 use Rattle.host_model.specs.declared.memory.MemEvent.{MemEvent}
-use Rattle.host_model.specs.declared.memory.MemEvent.TheVariants.{Attach, Fill, Show, Pin, Lift, Land, Done, Close, Release}
+use Rattle.host_model.specs.declared.memory.MemEvent.TheVariants.{Attach, Fill, Show, Pin, Lift}
+use Rattle.host_model.specs.declared.memory.MemEvent.TheVariants.{Land, Done, Close, Release}
 use Rattle.host_model.specs.Lists.{all_with_before, implies, same_counts}
 use Rattle.host_model.specs.Log.{given}
 use Rattle.host_model.specs.Session.{Session}

@@ -1,11 +1,13 @@
 -- The records taken, and how the log ends.
-use Rattle.std.specs.Prelude.{◌≡◌, ℕ, ◌≤◌, Bool, true, false, not, ◌==◌, List, [], ◌∷◌, ◌++◌, map, length, filter, filter_map, get_or, IsTrue}
+use Rattle.std.specs.Prelude.{◌≡◌, ℕ, ◌≤◌, Bool, true, false, not, ◌==◌, List, [], ◌∷◌, ◌++◌, map}
+use Rattle.std.specs.Prelude.{length, filter, filter_map, get_or, IsTrue}
 use Rattle.host_record.specs.declared.finish.Finish.{Finish}
 use Rattle.host_record.specs.declared.finish.Finish.TheVariants.{Drain, Abort}
 use Rattle.host_record.specs.declared.status.Status.TheVariants as status
 use Rattle.host_model.specs.declared.event.AttachError.TheVariants.{NoIds}
 use Rattle.host_model.specs.declared.event.Event.{Event}
-use Rattle.host_model.specs.declared.event.Event.TheVariants.{Attached, NotAttached, Drained, Aborted}
+use Rattle.host_model.specs.declared.event.Event.TheVariants.{Attached, NotAttached, Drained}
+use Rattle.host_model.specs.declared.event.Event.TheVariants.{Aborted}
 use Rattle.host_model.specs.declared.row.TakenRow.{TakenRow}
 use Rattle.host_model.specs.declared.verdict.Verdict.TheVariants.{Refused}
 use Rattle.host_model.specs.Lists.{agrees, all_with_before, below, implies}
@@ -42,7 +44,8 @@ is_out_of_ids _ = false
 
 -- an attach is refused for want of ids just where 65,535 were given before
 abbrev pub runs_out_rightly : List Event → Event → Bool
-runs_out_rightly before e = implies (is_attach e) (agrees (is_out_of_ids e) (length (given before) == 65535))
+runs_out_rightly before e =
+    implies (is_attach e) (agrees (is_out_of_ids e) (length (given before) == 65535))
 
 pub record IsTakenInOrder (s : Session) : Type 0 where
   -- the records sent are numbered from 0

@@ -6,11 +6,8 @@ use Rattle.std.proofs.lemmas.Bool.{cases_lt}
 use Rattle.std.proofs.lemmas.List.{get_or-map, get_or_default, length-map}
 use Rattle.std.proofs.lemmas.List.Kept.{AllPairs-from_increasing}
 use Rattle.host_block.specs.declared.range.Range.{Range}
-use Rattle.host_gpt.specs.Entries.{AreUsed}
-use Rattle.host_gpt.specs.declared.entry.Entry.{Entry}
-use Rattle.host_part.specs.Laws.{OneRange, RangeLiesInside, RangesShareNoBlock}
-use Rattle.host_part.specs.Ranges.{IsBad, IsEntryOf, IsUnused}
-use Rattle.host_part.specs.Served.{IsServed, Layout, Shares}
+use Rattle.host_gpt.specs.{AreUsed, Entry}
+use Rattle.host_part.specs.{OneRange, RangeLiesInside, RangesShareNoBlock, IsBad, IsEntryOf, IsNumberUnused, IsServed, Layout, Shares}
 
 -- where numbers rise, entries with one number are one entry
 same_entry : (es : List Entry) → IsStrictlyIncreasing (map (λ (e : Entry). e.number) es) → (e f : Entry) → Contains es e → Contains es f → e.number ≡ f.number → e ≡ f
@@ -64,7 +61,7 @@ served_not_bad layout n e used is served bad =
     bad.not_served (subst (λ (x : Entry). IsServed layout x) same served)
 
 -- an entry's number isn't unused
-pub entry_not_unused : (layout : Layout) (n : ℕ) (e : Entry) → IsEntryOf layout n e → ¬ IsUnused layout n
+pub entry_not_unused : (layout : Layout) (n : ℕ) (e : Entry) → IsEntryOf layout n e → ¬ IsNumberUnused layout n
 entry_not_unused layout n e is unused =
     let at = is.listed in
     let differs = unused at.0 e at.1 in

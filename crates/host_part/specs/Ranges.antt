@@ -24,5 +24,5 @@ pub record IsBad (layout : Layout) (n : ℕ) : Type 0 where
   pub not_served : ¬ IsServed layout entry
 
 -- no used entry has this number
-abbrev pub IsUnused : Layout → ℕ → Type 0
-IsUnused layout n = All (λ e. e.number ≢ n) layout.entries
+abbrev pub IsNumberUnused : Layout → ℕ → Type 0
+IsNumberUnused layout n = All (λ e. e.number ≢ n) layout.entries

@@ -6,7 +6,8 @@ pub enum PartError {
     /// The number is that of no used entry.
     #[error("no such partition")]
     Unused,
-    /// The entry reaches past the usable blocks, ends before it starts or shares a block with another one.
+    /// The entry reaches past the usable blocks, ends before it starts or shares a block with
+    /// another one.
     #[error("bad partition entry")]
     BadEntry,
 }

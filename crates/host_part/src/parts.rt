@@ -3,7 +3,7 @@ ghost use Rattle.std.specs.Prelude.{◌≡◌, ◌^◌, ◌-◌, ◌<◌, ◌↔
 ghost use Rattle.std.specs.Option.{option_copied};
 ghost use Rattle.host_gpt.specs.Entries.{AreUsed};
 ghost use Rattle.host_part.specs.Served.{IsAlone, IsServed, Shares, layout_of};
-ghost use Rattle.host_part.specs.Ranges.{IsBad, IsEntryOf, IsRangeOf, IsUnused};
+ghost use Rattle.host_part.specs.Ranges.{IsBad, IsEntryOf, IsRangeOf, IsNumberUnused};
 
 use crate::PartError;
 use host_block::{Oom, Range};
@@ -11,7 +11,8 @@ use host_gpt::{Entry, Table};
 use std::alloc::Global;
 use std::marker::Model;
 
-/// A table as it is served: its usable blocks, the number of blocks of the image, and its used entries.
+/// A table as it is served: its usable blocks, the number of blocks of the image, and its used
+/// entries.
 #[derive(Drop)]
 pub struct Parts {
     first_usable: u64,
@@ -26,7 +27,13 @@ impl Model for Parts {
 
     ghost Value = { Layout };
 
-    ghost view = { λ p. record { first_usable = p.first_usable; last_usable = p.last_usable; blocks = p.blocks; entries = p.entries.items } };
+    ghost view = { λ p.
+        record {
+          first_usable = p.first_usable;
+          last_usable = p.last_usable;
+          blocks = p.blocks;
+          entries = p.entries.items;
+        } };
 
     ghost invariant = { λ p. AreUsed p.entries.items };
 }
@@ -51,7 +58,7 @@ impl Parts {
     /// The range of the partition with this number.
     pub fn range(&self, number: u32) -> Result<Range, PartError>
         ensures ok { IfOk result (IsRangeOf self.now number) }
-        ensures unused { IsErrOf result PartError.Unused ↔ IsUnused self.now number }
+        ensures unused { IsErrOf result PartError.Unused ↔ IsNumberUnused self.now number }
         ensures bad { IsErrOf result PartError.BadEntry ↔ IsBad self.now number }
     {
         match self.entry(number) {
@@ -72,7 +79,7 @@ impl Parts {
     // The used entry with this number.
     fn entry(&self, number: u32) -> Option<&Entry>
         ensures found { IfSome (option_copied result) (IsEntryOf self.now number) }
-        ensures none { IfNone result (IsUnused self.now number) }
+        ensures none { IfNone result (IsNumberUnused self.now number) }
         ensures used { AreUsed self.now.entries }
     {
         self.entries.iter().find(|entry| entry.number == number)

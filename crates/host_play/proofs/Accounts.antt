@@ -4,38 +4,24 @@ use Rattle.std.proofs.Math.Bool.{or-false}
 use Rattle.std.specs.Prelude.{sum, ◌==◌, is_some}
 use Rattle.std.specs.List.{cons_option, list_any, sum_by}
 use Rattle.std.proofs.lemmas.List.Sums.{sum_by-append, sum_by-cons, sum_by_push}
-use Rattle.host_frames.specs.declared.seat.PoolSeat.{PoolSeat}
-use Rattle.host_frames.specs.Claims.{SomeIsRefused, asked_by}
-use Rattle.host_frames.specs.Seats.{asked, claims, given_back, granted}
-use Rattle.host_hand.specs.Frames.{pages_by, pages_in}
+use Rattle.host_frames.specs.{PoolSeat, SomeIsRefused, frames_in_claims, frames_asked, claims, given_back, granted}
+use Rattle.host_hand.specs.{pages_by, pages_released_in}
 use Rattle.host_io.specs.declared.disk.Disk as disk
-use Rattle.host_memory.specs.State.{events}
-use Rattle.host_model.specs.declared.event.AttachError.{AttachError}
+use Rattle.host_memory.specs.{events}
+use Rattle.host_model.specs.{AttachError, Event, Attached, NotAttached, Received, MemEntry, MemEvent, Attach, Fill, Show, Pin, Lift, Land, Done, Close, Release, map_after}
 use Rattle.host_model.specs.declared.event.AttachError.TheVariants as attach
-use Rattle.host_model.specs.declared.event.Event.{Event}
-use Rattle.host_model.specs.declared.event.Event.TheVariants.{Attached, NotAttached, Received}
-use Rattle.host_model.specs.declared.memory.MemEntry.{MemEntry}
-use Rattle.host_model.specs.declared.memory.MemEvent.{MemEvent}
-use Rattle.host_model.specs.declared.memory.MemEvent.TheVariants.{Attach, Fill, Show, Pin, Lift, Land, Done, Close, Release}
-use Rattle.host_model.specs.Lists.{map_after}
-use Rattle.host_report.specs.Lawful.{is_short_of_frames, pages_asked_by}
-use Rattle.host_session.specs.Calls.{IsAttachAnswer, with_event}
-use Rattle.host_session.specs.Client.{ClientState}
-use Rattle.host_session.specs.Kept.{IsClient}
-use Rattle.host_session.specs.Told.{is_release}
-use Rattle.host_turn.specs.History.{entries_of}
-use Rattle.host_turn.specs.Seats.{seen_by}
-use Rattle.host_worker.specs.declared.hand.Hand.{Hand}
-use Rattle.host_worker.specs.Accounts.{HasWorked, HaveWorked, frames_of, pages_attached, pages_attached_by, pages_wanted, released_of}
-use Rattle.host_worker.specs.declared.server.Server.{Server}
-use Rattle.host_worker.specs.Hands.{IsHandOf, pool_seat_of, with_pool_seat}
-use Rattle.host_worker.specs.Waits.{received_events}
-use Rattle.host_play.specs.Calls.{HasWorkedAlone, IsAsBefore, IsSquare, IsSquareAlone}
+use Rattle.host_report.specs.{is_short_of_frames, pages_asked_by}
+use Rattle.host_session.specs.{IsAttachAnswer, with_event, ClientState, IsClient, is_release}
+use Rattle.host_log.specs.{entries_of}
+use Rattle.host_turn.specs.{seen_by}
+use Rattle.host_worker.specs.{Hand, HasWorked, HaveWorked, frames_of, pages_attached, pages_attached_by, pages_wanted, released_of, Server, IsHandOf, pool_seat_of, with_pool_seat, session_count, EachOf, IsClosed, received_events}
+use Rattle.host_play.specs.{HasWorkedAlone, IsAsBefore, IsSquare, IsSquareAlone}
+use Rattle.host_log.proofs.Bools.{or_parts}
 
 -- ---- releases of a client that isn't closed
 
 -- what isn't a release takes out no pages
-pages_none : (before : List MemEntry) (what : MemEvent) → is_release what ≡ false → pages_in before what ≡ None
+pages_none : (before : List MemEntry) (what : MemEvent) → is_release what ≡ false → pages_released_in before what ≡ None
 pages_none before (Attach id pages from) h = refl
 pages_none before (Fill id block count byte) h = refl
 pages_none before (Show id block count) h = refl
@@ -54,20 +40,16 @@ skipped : (o : Option ℕ) (l : List ℕ) → o ≡ None → l ≡ [] → cons_o
 skipped None l e h = h
 skipped (Some x) l e h = cc
 
-or_false : (a b : Bool) → (a || b) ≡ false → (a ≡ false) × (b ≡ false)
-or_false true b h = cc
-or_false false b h = (refl, h)
-
 -- one entry more
 one_from : (n : ℕ) (before h : List MemEntry) (e : MemEntry) → (list_any is_release (events (entries_of (λ x. x.hand) n h)) ≡ false → map_after (pages_by n) (before ++ e ∷ []) h ≡ []) → (b : Bool) → (e.hand == n) ≡ b
     → list_any is_release (events (cond (e.hand == n) (e ∷ entries_of (λ x. x.hand) n h) (entries_of (λ x. x.hand) n h))) ≡ false → map_after (pages_by n) before (e ∷ h) ≡ []
 one_from n before h e more true own none =
-    let parts = or_false (is_release e.what) (list_any is_release (events (entries_of (λ x. x.hand) n h)))
+    let parts = or_parts (is_release e.what) (list_any is_release (events (entries_of (λ x. x.hand) n h)))
     (subst (λ b. list_any is_release (events (cond b (e ∷ entries_of (λ x. x.hand) n h) (entries_of (λ x. x.hand) n h))) ≡ false) own none) in
-    skipped (pages_by n before e) (map_after (pages_by n) (before ++ e ∷ []) h) (either_none (e.hand == n) (pages_in before e.what) (pages_none before e.what parts.0)) (more parts.1)
+    skipped (pages_by n before e) (map_after (pages_by n) (before ++ e ∷ []) h) (either_none (e.hand == n) (pages_released_in before e.what) (pages_none before e.what parts.0)) (more parts.1)
 one_from n before h e more false other none =
     let rest = subst (λ b. list_any is_release (events (cond b (e ∷ entries_of (λ x. x.hand) n h) (entries_of (λ x. x.hand) n h))) ≡ false) other none in
-    skipped (pages_by n before e) (map_after (pages_by n) (before ++ e ∷ []) h) (ap (λ b. cond b (pages_in before e.what) None) other) (more rest)
+    skipped (pages_by n before e) (map_after (pages_by n) (before ++ e ∷ []) h) (ap (λ b. cond b (pages_released_in before e.what) None) other) (more rest)
 
 -- of a maker without releases among its own entries nothing is counted
 none_from : (n : ℕ) (before h : List MemEntry) → list_any is_release (events (entries_of (λ e. e.hand) n h)) ≡ false → map_after (pages_by n) before h ≡ []
@@ -150,7 +132,7 @@ module _ {D : Type 0} {g : disk.Ghosts D} where
   pub square_still : (hand : Hand D g) (client client' : ClientState) → IsAsBefore client client' → IsSquare hand client → IsSquare hand client'
   square_still hand client client' same sq = record {
     granted_is = sq.granted_is ∙ sym same.attached;
-    asked_within = subst (λ n. asked (pool_seat_of hand) ≤ n) (sym same.wanted) sq.asked_within;
+    asked_within = subst (λ n. frames_asked (pool_seat_of hand) ≤ n) (sym same.wanted) sq.asked_within;
     refused = λ short. sq.refused (sym same.short ∙ short);
     given_back_is = sq.given_back_is ∙ ap (λ n. frames_of hand + n) (sym same.released);
   }
@@ -160,7 +142,7 @@ module _ {D : Type 0} {g : disk.Ghosts D} where
   pub square_worked : (old new : Hand D g) (client client' : ClientState) → HasWorked old new → IsAsBefore client client' → IsSquare old client → IsSquare new client'
   square_worked old new client client' w same sq = square_still new client client' same (record {
     granted_is = w.pool.2 ∙ sq.granted_is;
-    asked_within = subst (λ cs. asked_by cs ≤ pages_wanted client) (sym w.pool.1) sq.asked_within;
+    asked_within = subst (λ cs. frames_in_claims cs ≤ pages_wanted client) (sym w.pool.1) sq.asked_within;
     refused = λ short. subst (λ cs. SomeIsRefused 4096 cs) (sym w.pool.1) (sq.refused short);
     given_back_is = omega (arith, w.frames, sq.given_back_is);
   })
@@ -168,16 +150,25 @@ module _ {D : Type 0} {g : disk.Ghosts D} where
   pub square_alone_worked : (old new : Hand D g) → HasWorked old new → IsSquareAlone old → IsSquareAlone new
   square_alone_worked old new w sq = record {
     granted_is = w.pool.2 ∙ sq.granted_is;
-    asked_is = ap asked_by w.pool.1 ∙ sq.asked_is;
+    asked_is = ap frames_in_claims w.pool.1 ∙ sq.asked_is;
     given_back_is = omega (arith, w.frames, sq.given_back_is);
   }
 
-  pub worked_alone_then : (server : Server D g) (a b c : Hand D g) → HasWorkedAlone server a b → IsHandOf server c → HasWorked b c → HasWorkedAlone server a c
-  worked_alone_then server a b c before hand w = record {
+  -- a hand that works alone, so far
+  pub record WorksAlone (server : Server D g) (old new : Hand D g) : Type 0 where
+    pub hand : IsHandOf server new
+    pub number_is : new.number ≡ old.number
+    pub account : IsSquareAlone old → IsSquareAlone new
+
+  pub works_alone_then : (server : Server D g) (a b c : Hand D g) → WorksAlone server a b → IsHandOf server c → HasWorked b c → WorksAlone server a c
+  works_alone_then server a b c before hand w = record {
     hand = hand;
     number_is = w.number ∙ before.number_is;
     account = λ sq. square_alone_worked b c w (before.account sq);
   }
+
+  pub worked_alone : (server : Server D g) (old new : Hand D g) → WorksAlone server old new → EachOf 0 (session_count server) IsClosed new → HasWorkedAlone server old new
+  worked_alone server old new work closed = record { hand = work.hand; number_is = work.number_is; account = work.account; closed = closed }
 
   -- ---- both ended the session
 
@@ -186,7 +177,7 @@ module _ {D : Type 0} {g : disk.Ghosts D} where
       let sums = silent_more client.log es s in
       record {
         granted_is = w.pool.2 ∙ sq.granted_is ∙ sym (ap (sum_by pages_attached_by) log_is ∙ sums.0);
-        asked_within = subst (λ n. asked (pool_seat_of new) ≤ n) (sym (ap (sum_by pages_asked_by) log_is ∙ sums.1)) (subst (λ cs. asked_by cs ≤ pages_wanted client) (sym w.pool.1) sq.asked_within);
+        asked_within = subst (λ n. frames_asked (pool_seat_of new) ≤ n) (sym (ap (sum_by pages_asked_by) log_is ∙ sums.1)) (subst (λ cs. frames_in_claims cs ≤ pages_wanted client) (sym w.pool.1) sq.asked_within);
         refused = λ short. subst (λ cs. SomeIsRefused 4096 cs) (sym w.pool.1) (sq.refused (sym (ap (list_any is_short_of_frames) log_is ∙ sums.2) ∙ short));
         given_back_is = omega (arith, w.frames, sq.given_back_is);
       }
@@ -207,7 +198,7 @@ module _ {D : Type 0} {g : disk.Ghosts D} where
             omega (arith, kept, sq.granted_is, grown);
         asked_within =
             let grown : pages_wanted new ≡ pages_wanted old + pages = ap (sum_by pages_asked_by) log_is ∙ wanted in
-            let kept : asked seat' ≡ asked (pool_seat_of hand) = ap asked same in
+            let kept : frames_asked seat' ≡ frames_asked (pool_seat_of hand) = ap frames_asked same in
             omega (arith, kept, sq.asked_within, grown);
         refused = λ short.
             let before = short_snoc old.log (NotAttached pages cause) quiet (sym (ap (list_any is_short_of_frames) log_is) ∙ short) in
@@ -229,7 +220,7 @@ module _ {D : Type 0} {g : disk.Ghosts D} where
             omega (arith, claimed.granted, sq.granted_is, grown);
         asked_within =
             let grown : pages_wanted new ≡ pages_wanted old + pages = ap (sum_by pages_asked_by) log_is ∙ wanted in
-            let more : asked seat' ≡ claimed.claim.asked + asked (pool_seat_of hand) = ap asked_by claimed.claims in
+            let more : frames_asked seat' ≡ claimed.claim.asked + frames_asked (pool_seat_of hand) = ap frames_in_claims claimed.claims in
             omega (arith, more, claimed.asked, sq.asked_within, grown);
         refused = λ short.
             let before = short_snoc old.log (Attached pages id) refl (sym (ap (list_any is_short_of_frames) log_is) ∙ short) in
@@ -247,7 +238,7 @@ module _ {D : Type 0} {g : disk.Ghosts D} where
             omega (arith, was.granted, sq.granted_is, grown);
         asked_within =
             let grown : pages_wanted new ≡ pages_wanted old + pages = ap (sum_by pages_asked_by) log_is ∙ wanted in
-            let more : asked seat' ≡ was.claim.asked + asked (pool_seat_of hand) = ap asked_by was.claims in
+            let more : frames_asked seat' ≡ was.claim.asked + frames_asked (pool_seat_of hand) = ap frames_in_claims was.claims in
             omega (arith, more, was.asked, sq.asked_within, grown);
         refused = λ short. subst (λ cs. SomeIsRefused 4096 cs) (sym was.claims) (inl was.refused);
         given_back_is = omega (arith, was.given_back, sq.given_back_is, released);

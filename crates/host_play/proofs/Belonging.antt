@@ -1,16 +1,9 @@
 -- A client of a server, with a seat at the pool.
 use Rattle.std.proofs.Common.{◌≡◌, ◌≤◌, ℕ, ap, subst, ◌∙◌, arith}
-use Rattle.host_frames.specs.declared.pool.Pool.{Pool}
-use Rattle.host_frames.specs.declared.seat.PoolSeat.{PoolSeat}
-use Rattle.host_frames.specs.Seats.{pool_id, seat_pool}
+use Rattle.host_frames.specs.{Pool, PoolSeat, pool_id, seat_pool}
 use Rattle.host_io.specs.declared.disk.Disk as disk
-use Rattle.host_session.specs.declared.shared.SessionShared.{SessionShared}
-use Rattle.host_session.specs.Client.{ClientState}
-use Rattle.host_session.specs.Plan.{IsItsPool, IsShared}
-use Rattle.host_worker.specs.declared.hand.Hand.{Hand}
-use Rattle.host_worker.specs.declared.server.Server.{Server}
-use Rattle.host_worker.specs.Hands.{IsHandOf, pool_seat_of}
-use Rattle.host_worker.specs.Servers.{IsClientOf, IsServer, IsSessionShared, pool_of, session_count}
+use Rattle.host_session.specs.{SessionShared, ClientState, IsItsPool, IsShared}
+use Rattle.host_worker.specs.{Hand, Server, IsHandOf, pool_seat_of, IsClientOf, IsServer, IsSessionShared, pool_of, session_count}
 use Rattle.host_worker.proofs.Shared.{its_pool, number_within, shares}
 
 module _ {D : Type 0} {g : disk.Ghosts D} (server : Server D g) (client : ClientState) (running : IsServer server) (own : IsClientOf server client) where

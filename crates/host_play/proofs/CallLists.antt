@@ -3,21 +3,20 @@ use Rattle.std.proofs.Common.{◌≡◌, ℕ, zero, suc, ◌≤◌, ◌<◌, tru
 use Rattle.std.proofs.lemmas.List.Elements.{filter-append}
 use Rattle.script_model.proofs.PrintedValues.{and_true}
 use Rattle.script_model.proofs.Said.{and_both}
-use Rattle.host_record.specs.declared.finish.Finish.{Finish}
-use Rattle.host_model.specs.declared.event.Event.{Event}
-use Rattle.host_model.specs.declared.event.Event.TheVariants.{Received}
-use Rattle.host_report.specs.Played.{Ask, are_calls_for, before_call, calls_asked, calls_in, is_call_for, is_end_of, is_received, is_wait}
-use Rattle.host_play.specs.Logs.{are_calls}
+use Rattle.host_record.specs.{Finish}
+use Rattle.host_model.specs.{Event, Received}
+use Rattle.host_report.specs.{LineAsk, are_calls_for, before_call, calls_asked, calls_in, is_call_for, is_end_of, is_received, is_wait}
+use Rattle.host_play.specs.{are_calls}
 
 -- as many calls as were asked for
-pub calls_length : (asks : List Ask) (log : List Event) → are_calls asks log ≡ true → length asks ≡ length log
+pub calls_length : (asks : List LineAsk) (log : List Event) → are_calls asks log ≡ true → length asks ≡ length log
 calls_length [] [] h = refl
 calls_length (a ∷ asks) (e ∷ log) h = ap suc (calls_length asks log (and_true (is_call_for a e) (are_calls asks log) h).1)
 calls_length [] (e ∷ log) h = cc
 calls_length (a ∷ asks) [] h = cc
 
 -- one more of both
-pub calls_snoc : (asks : List Ask) (log : List Event) (a : Ask) (e : Event) → are_calls asks log ≡ true → is_call_for a e ≡ true → are_calls (asks ++ a ∷ []) (log ++ e ∷ []) ≡ true
+pub calls_snoc : (asks : List LineAsk) (log : List Event) (a : LineAsk) (e : Event) → are_calls asks log ≡ true → is_call_for a e ≡ true → are_calls (asks ++ a ∷ []) (log ++ e ∷ []) ≡ true
 calls_snoc [] [] a e h c = and_both (is_call_for a e) true c refl
 calls_snoc (b ∷ asks) (f ∷ log) a e h c =
     let parts = and_true (is_call_for b f) (are_calls asks log) h in
@@ -26,7 +25,7 @@ calls_snoc [] (f ∷ log) a e h c = cc
 calls_snoc (b ∷ asks) [] a e h c = cc
 
 -- the end after all calls
-pub calls_end : (finish : Finish) (asks : List Ask) (log : List Event) (e : Event) → are_calls asks log ≡ true → is_end_of finish e ≡ true → are_calls_for finish asks (log ++ e ∷ []) ≡ true
+pub calls_end : (finish : Finish) (asks : List LineAsk) (log : List Event) (e : Event) → are_calls asks log ≡ true → is_end_of finish e ≡ true → are_calls_for finish asks (log ++ e ∷ []) ≡ true
 calls_end finish [] [] e h c = c
 calls_end finish (b ∷ asks) (f ∷ log) e h c =
     let parts = and_true (is_call_for b f) (are_calls asks log) h in
@@ -61,10 +60,10 @@ before_stop (suc k) [] e c h = absurd (omega arith)
 
 -- ---- the asks before one
 
-pub asked-append : (front back : List Ask) → calls_asked (front ++ back) ≡ calls_asked front ++ calls_asked back
+pub asked-append : (front back : List LineAsk) → calls_asked (front ++ back) ≡ calls_asked front ++ calls_asked back
 asked-append front back = filter-append (λ a. not (is_wait a)) front back
 
-pub asked_within : (front back asks : List Ask) → asks ≡ front ++ back → length (calls_asked front) ≤ length (calls_asked asks)
+pub asked_within : (front back asks : List LineAsk) → asks ≡ front ++ back → length (calls_asked front) ≤ length (calls_asked asks)
 asked_within front back asks e =
-    let split : length (calls_asked asks) ≡ length (calls_asked front ++ calls_asked back) = ap (λ l. length (calls_asked l)) e ∙ ap (λ (l : List Ask). length l) (asked-append front back) in
+    let split : length (calls_asked asks) ≡ length (calls_asked front ++ calls_asked back) = ap (λ l. length (calls_asked l)) e ∙ ap (λ (l : List LineAsk). length l) (asked-append front back) in
     omega (arith, length-append (calls_asked front) (calls_asked back))

@@ -3,11 +3,9 @@ use Rattle.std.proofs.Common.{◌≡◌, ℕ, ◌+◌, ◌≤◌, List, [], ◌�
 use Rattle.std.specs.declared.alloc.Global.{Global}
 use Rattle.std.proofs.lemmas.List.Elements.{All-append, All-cons, All-nil}
 use Rattle.host_io.specs.declared.disk.Disk as disk
-use Rattle.host_session.specs.Client.{ClientState}
-use Rattle.host_worker.specs.declared.hand.Hand.{Hand}
-use Rattle.host_play.specs.declared.actor.Actor.{Actor}
-use Rattle.host_play.specs.declared.actor.Client.{Client}
-use Rattle.host_play.specs.Casts.{HasTakenClient, IsMadeOf, clients_in, end_in, hands_in}
+use Rattle.host_session.specs.{ClientState}
+use Rattle.host_worker.specs.{Hand}
+use Rattle.host_play.specs.{Actor, Client, HasTakenClient, IsMadeOf, clients_in, ends_of_client, hands_in}
 use Rattle.host_play.proofs.OneByOne.{clients_next, clients_snoc, front_left, goes_over, hands_snoc, left_enough, left_same, taken_one}
 
 module _ {D : Type 0} {g : disk.Ghosts D} where
@@ -60,18 +58,18 @@ module _ {D : Type 0} {g : disk.Ghosts D} where
     pub clients_are : clients ++ clients_in actors ≡ all_clients
 
   pub one_back : (all_hands : List (Hand D g)) (all_clients : List ClientState) (hands hands' : List (Hand D g)) (clients clients' : List ClientState) (actors actors' : List (Actor D g))
-      → AreBackSoFar all_hands all_clients hands clients actors → (a : Actor D g) → actors ≡ actors' ++ a ∷ [] → hands' ≡ hands ++ a.hand ∷ [] → clients' ≡ clients ++ end_in a.client
+      → AreBackSoFar all_hands all_clients hands clients actors → (a : Actor D g) → actors ≡ actors' ++ a ∷ [] → hands' ≡ hands ++ a.hand ∷ [] → clients' ≡ clients ++ ends_of_client a.client
       → AreBackSoFar all_hands all_clients hands' clients' actors'
   one_back all_hands all_clients hands hands' clients clients' actors actors' so a popped hand client = record {
     hands_are =
         ap (λ (l : List (Hand D g)). l ++ hands_in actors') hand ∙ append_assoc hands (a.hand ∷ []) (hands_in actors')
         ∙ ap (λ (l : List (Hand D g)). hands ++ l) (sym (hands_snoc actors' a) ∙ ap hands_in (sym popped)) ∙ so.hands_are;
     clients_are =
-        ap (λ (l : List ClientState). l ++ clients_in actors') client ∙ append_assoc clients (end_in a.client) (clients_in actors')
+        ap (λ (l : List ClientState). l ++ clients_in actors') client ∙ append_assoc clients (ends_of_client a.client) (clients_in actors')
         ∙ ap (λ (l : List ClientState). clients ++ l) (sym (clients_snoc actors' a) ∙ ap clients_in (sym popped)) ∙ so.clients_are;
   }
 
   -- as many clients are left as fit
-  pub room_back : (actors actors' : List (Actor D g)) (a : Actor D g) → actors ≡ actors' ++ a ∷ [] → length (clients_in actors) ≡ length (end_in a.client) + length (clients_in actors')
+  pub room_back : (actors actors' : List (Actor D g)) (a : Actor D g) → actors ≡ actors' ++ a ∷ [] → length (clients_in actors) ≡ length (ends_of_client a.client) + length (clients_in actors')
   room_back actors actors' a popped =
-      ap (λ (l : List (Actor D g)). length (clients_in l)) popped ∙ ap (λ (l : List ClientState). length l) (clients_snoc actors' a) ∙ length-append (end_in a.client) (clients_in actors')
+      ap (λ (l : List (Actor D g)). length (clients_in l)) popped ∙ ap (λ (l : List ClientState). length l) (clients_snoc actors' a) ∙ length-append (ends_of_client a.client) (clients_in actors')

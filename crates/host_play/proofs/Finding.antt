@@ -1,18 +1,13 @@
 -- The session of a client in its script.
 use Rattle.std.proofs.Common.{◌≡◌, ℕ, ◌-◌, List, map, Some, None, true, sym, ap, subst, ◌∙◌}
 use Rattle.std.specs.Prelude.{slice_get}
-use Rattle.host_session.specs.Client.{ClientState}
+use Rattle.host_session.specs.{ClientState}
 use Rattle.host_worker.proofs.Lists.{map_at, map_from}
-use Rattle.script_model.specs.declared.script.SessionScript.{SessionScript}
-use Rattle.script_model.specs.Plans.{SessionPlan, plan_of}
-use Rattle.host_play.specs.declared.actor.Client.{Client}
-use Rattle.host_play.specs.Actors.{HasPlayedSession, IsReady, number_of}
-use Rattle.host_play.specs.Logs.{HasPlayedOut}
-use Rattle.host_play.specs.Opened.{HasRoomFor}
-use Rattle.host_play.specs.Pieces.{ArePieces}
+use Rattle.script_model.specs.{SessionScript, PlannedSession, plan_of}
+use Rattle.host_play.specs.{Client, HasPlayedSession, IsClientReady, session_number, HasPlayedOut, HasRoomForLines, ArePieces}
 use Rattle.host_play.proofs.Reversed.{some_same}
 
-module _ (sessions : List SessionScript) (client : Client) (r : IsReady (map plan_of sessions) client) (place : ℕ) (at : place ≡ number_of client.end - 1) where
+module _ (sessions : List SessionScript) (client : Client) (r : IsClientReady (map plan_of sessions) client) (place : ℕ) (at : place ≡ session_number client.end - 1) where
   -- there is one
   pub stands_there : None ≡ slice_get sessions place → ⊥
   stands_there none =
@@ -23,17 +18,17 @@ module _ (sessions : List SessionScript) (client : Client) (r : IsReady (map pla
       some_none s h = cc h
 
   module _ (session : SessionScript) (here : Some session ≡ slice_get sessions place) where
-    placed : slice_get (map plan_of sessions) (number_of client.end - 1) ≡ Some (plan_of session)
+    placed : slice_get (map plan_of sessions) (session_number client.end - 1) ≡ Some (plan_of session)
     placed = ap (slice_get (map plan_of sessions)) (sym at) ∙ map_at plan_of sessions place session (sym here)
 
     its_plan : r.plan ≡ plan_of session
     its_plan = some_same (sym r.stands ∙ placed)
 
-    pub its_room : HasRoomFor session.lines.items client.end.plan.spec
-    its_room = subst (λ (p : SessionPlan). HasRoomFor p.lines client.end.plan.spec) its_plan r.room
+    pub its_room : HasRoomForLines session.lines.items client.end.plan.spec
+    its_room = subst (λ (p : PlannedSession). HasRoomForLines p.lines client.end.plan.spec) its_plan r.room
 
     pub its_pieces : ArePieces client.end.plan.spec.size session.lines.items client.pieces.items
-    its_pieces = subst (λ (p : SessionPlan). ArePieces client.end.plan.spec.size p.lines client.pieces.items) its_plan r.pieces
+    its_pieces = subst (λ (p : PlannedSession). ArePieces client.end.plan.spec.size p.lines client.pieces.items) its_plan r.pieces
 
     -- it was played
     pub played_so : (new : ClientState) → new.plan ≡ client.end.plan → new.finish ≡ Some session.finish → new.closed ≡ true → HasPlayedOut session.finish session.lines.items new.log → HasPlayedSession (map plan_of sessions) client.end new

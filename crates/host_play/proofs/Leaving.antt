@@ -6,28 +6,18 @@ use Rattle.std.proofs.lemmas.List.{length-map, map-append}
 use Rattle.std.proofs.lemmas.List.Sums.{sum_by_push}
 use Rattle.std.proofs.lemmas.List.FromFn.{length-range_with_len}
 use mathlib.Core.List.{map-map}
-use Rattle.host_frames.specs.declared.seat.PoolSeat.{PoolSeat}
-use Rattle.host_frames.specs.Claims.{SomeIsRefused}
-use Rattle.host_frames.specs.Seats.{SomeSeatRefused, asked, claims, given_back, granted}
-use Rattle.host_frames.specs.Sums.{total}
+use Rattle.host_frames.specs.{PoolSeat, SomeIsRefused, SomeSeatRefused, frames_asked, claims, given_back, granted}
+use Rattle.host_log.specs.{total}
+use Rattle.host_log.proofs.Totals.{total_snoc}
 use Rattle.host_io.specs.declared.disk.Disk as disk
-use Rattle.host_model.specs.Lists.{below}
-use Rattle.host_report.specs.Lawful.{is_short_of_frames}
-use Rattle.host_session.specs.Client.{ClientState}
-use Rattle.host_session.proofs.Snoc.{slice_get_snoc}
-use Rattle.host_frames.proofs.Totals.{total_snoc}
-use Rattle.host_worker.specs.declared.hand.Hand.{Hand}
-use Rattle.host_worker.specs.declared.server.Server.{Server}
-use Rattle.host_worker.specs.Accounts.{AreAccounted, frames_of, pages_attached, pages_wanted, pool_seats_of, released_of}
-use Rattle.host_worker.specs.Finishes.{AreClosed, AreHands}
-use Rattle.host_worker.specs.Hands.{IsHandOf}
-use Rattle.host_worker.specs.Servers.{plan_of}
+use Rattle.host_model.specs.{below}
+use Rattle.host_report.specs.{is_short_of_frames}
+use Rattle.host_session.specs.{ClientState}
+use Rattle.host_log.proofs.Places.{get_snoc}
+use Rattle.host_worker.specs.{Hand, Server, AreAccounted, frames_of, pages_attached, pages_wanted, pool_seats_of, released_of, AreClosed, AreHands, IsHandOf, plan_of_session}
 use Rattle.host_worker.proofs.Lists.{each_place, map_at}
-use Rattle.script_model.specs.Plans.{SessionPlan}
-use Rattle.host_play.specs.declared.actor.Actor.{Actor}
-use Rattle.host_play.specs.declared.actor.Client.{Client}
-use Rattle.host_play.specs.Actors.{HasActed, HasPlayedPart, HasPlayedSession, IsSquareWith}
-use Rattle.host_play.specs.Casts.{AllHavePlayed, clients_in, hands_in, of_clients, told_of}
+use Rattle.script_model.specs.{PlannedSession}
+use Rattle.host_play.specs.{Actor, Client, HasActed, HasPlayedPart, HasPlayedSession, IsSquareWith, AllHavePlayed, clients_in, hands_in, of_clients, told_by_client}
 use Rattle.host_play.proofs.Reversed.{map-filter_map, map-reverse, reverse_cons, zipped_found, zipped_map}
 use Rattle.host_play.proofs.Accounts.{or_left}
 
@@ -39,7 +29,7 @@ number_at n (suc count) (suc k) x at = let t = number_at (n + 1) count k x at in
 
 -- a place of a list with one element more
 snoc_place : {A : Type 0} (xs : List A) (x y : A) (k : ℕ) → slice_get (xs ++ x ∷ []) k ≡ Some y → (slice_get xs k ≡ Some y) ⊎ (x ≡ y)
-snoc_place xs x y k at = ⊎_elim (λ t. inl t) (λ t. inr t.1) (slice_get_snoc xs x y k at)
+snoc_place xs x y k at = ⊎_elim (λ t. inl t) (λ t. inr t.1) (get_snoc xs x y k at)
 
 seat_refused : (seats : List PoolSeat) (q : PoolSeat) → (SomeSeatRefused 4096 seats ⊎ SomeIsRefused 4096 (claims q)) → SomeSeatRefused 4096 (seats ++ q ∷ [])
 seat_refused [] q (inl h) = absurd h
@@ -72,14 +62,14 @@ module _ {D : Type 0} {g : disk.Ghosts D} where
   seats_cons a actors = ap (map (λ (hand : Hand D g). hand.pool_seat)) (reverse_cons a.hand (map (λ (actor : Actor D g). actor.hand) actors)) ∙ map-append (λ (hand : Hand D g). hand.pool_seat) (hands_in actors) (a.hand ∷ [])
 
   clients_cons : (hand : Hand D g) (c : Client) (actors : List (Actor D g)) → clients_in (record { hand = hand; client = Some c } ∷ actors) ≡ clients_in actors ++ c.end ∷ []
-  clients_cons hand c actors = reverse_cons c.end (filter_map (λ (actor : Actor D g). told_of (λ client. client) actor.client) actors)
+  clients_cons hand c actors = reverse_cons c.end (filter_map (λ (actor : Actor D g). told_by_client (λ client. client) actor.client) actors)
 
   one_more : (hand : Hand D g) (client : Option Client) (actors : List (Actor D g)) → IsSquareWith hand client → AreAccounted (hands_in actors) (clients_in actors) → AreAccounted (hands_in (record { hand = hand; client = client } ∷ actors)) (clients_in (record { hand = hand; client = client } ∷ actors))
   one_more hand None actors sq all =
       let a : Actor D g = record { hand = hand; client = None } in
       record {
         granted_are = let t = total-hands granted a actors in omega (arith, t, sq.granted_is, all.granted_are);
-        asked_are = let t = total-hands asked a actors in omega (arith, t, sq.asked_is, all.asked_are);
+        asked_are = let t = total-hands frames_asked a actors in omega (arith, t, sq.asked_is, all.asked_are);
         refused = λ short. subst (λ qs. SomeSeatRefused 4096 qs) (sym (seats_cons a actors)) (seat_refused (pool_seats_of (hands_in actors)) hand.pool_seat (inl (all.refused short)));
         given_back_are = let t = total-hands given_back a actors in let f = frames-hands a actors in omega (arith, t, f, sq.given_back_is, all.given_back_are);
       }
@@ -92,7 +82,7 @@ module _ {D : Type 0} {g : disk.Ghosts D} where
             let s = ap (sum_by pages_attached) clients ∙ sum_by_push pages_attached (clients_in actors) c.end in
             omega (arith, t, s, sq.granted_is, all.granted_are);
         asked_are =
-            let t = total-hands asked a actors in
+            let t = total-hands frames_asked a actors in
             let s = ap (sum_by pages_wanted) clients ∙ sum_by_push pages_wanted (clients_in actors) c.end in
             omega (arith, t, s, sq.asked_within, all.asked_are);
         refused = λ short.
@@ -110,7 +100,7 @@ module _ {D : Type 0} {g : disk.Ghosts D} where
       either (inl t) = inl (all.refused t)
       either (inr t) = inr (sq.refused t)
 
-  module _ (server : Server D g) (plans : List SessionPlan) where
+  module _ (server : Server D g) (plans : List PlannedSession) where
     pub accounted : (old new : List (Actor D g)) → AllHavePlayed server plans old new → AreAccounted (hands_in new) (clients_in new)
     accounted [] [] z = record { granted_are = refl; asked_are = omega arith; refused = λ short. absurd (cc short); given_back_are = refl }
     accounted [] (y ∷ new) z = absurd z
@@ -141,10 +131,10 @@ module _ {D : Type 0} {g : disk.Ghosts D} where
 
     -- ---- clients
 
-    same_fixed : (x y : Actor D g) → HasPlayedPart server plans x y → told_of (λ client. client.plan) y.client ≡ told_of (λ client. client.plan) x.client
+    same_fixed : (x y : Actor D g) → HasPlayedPart server plans x y → told_by_client (λ client. client.plan) y.client ≡ told_by_client (λ client. client.plan) x.client
     same_fixed x y r = by x.client y.client r.acted
       where
-        by : (a b : Option Client) → HasActed plans a b → told_of (λ client. client.plan) b ≡ told_of (λ client. client.plan) a
+        by : (a b : Option Client) → HasActed plans a b → told_by_client (λ client. client.plan) b ≡ told_by_client (λ client. client.plan) a
         by None None h = refl
         by (Some a) (Some b) h = ap Some h.same_plan
         by None (Some b) h = absurd h
@@ -152,23 +142,23 @@ module _ {D : Type 0} {g : disk.Ghosts D} where
 
     pub fixed_same : (old new : List (Actor D g)) → AllHavePlayed server plans old new → map (λ client. client.plan) (clients_in new) ≡ of_clients (λ client. client.plan) old
     fixed_same old new z =
-        map-reverse (λ (client : ClientState). client.plan) (filter_map (λ (actor : Actor D g). told_of (λ client. client) actor.client) new)
-        ∙ ap reverse (sym (map-filter_map (λ (client : ClientState). client.plan) (λ (actor : Actor D g). told_of (λ client. client) actor.client) (λ (actor : Actor D g). told_of (λ client. client.plan) actor.client) (λ actor. told_both actor.client) new)
-        ∙ zipped_found (HasPlayedPart server plans) (λ (actor : Actor D g). told_of (λ client. client.plan) actor.client) same_fixed old new z)
+        map-reverse (λ (client : ClientState). client.plan) (filter_map (λ (actor : Actor D g). told_by_client (λ client. client) actor.client) new)
+        ∙ ap reverse (sym (map-filter_map (λ (client : ClientState). client.plan) (λ (actor : Actor D g). told_by_client (λ client. client) actor.client) (λ (actor : Actor D g). told_by_client (λ client. client.plan) actor.client) (λ actor. told_both actor.client) new)
+        ∙ zipped_found (HasPlayedPart server plans) (λ (actor : Actor D g). told_by_client (λ client. client.plan) actor.client) same_fixed old new z)
       where
-        told_both : (o : Option Client) → cons_option (told_of (λ client. client.plan) o) [] ≡ map (λ (client : ClientState). client.plan) (cons_option (told_of (λ client. client) o) [])
+        told_both : (o : Option Client) → cons_option (told_by_client (λ client. client.plan) o) [] ≡ map (λ (client : ClientState). client.plan) (cons_option (told_by_client (λ client. client) o) [])
         told_both None = refl
         told_both (Some c) = refl
 
     -- a client at a place is one of the others, or that of one more
     one_session : (new : List (Actor D g)) (k : ℕ) (client : ClientState) → (slice_get (clients_in new) k ≡ Some client → (before : ClientState) × HasPlayedSession plans before client)
-        → (a b : Option Client) → HasActed plans a b → slice_get (reverse (cons_option (told_of (λ c. c) b) (filter_map (λ (actor : Actor D g). told_of (λ c. c) actor.client) new))) k ≡ Some client → (before : ClientState) × HasPlayedSession plans before client
+        → (a b : Option Client) → HasActed plans a b → slice_get (reverse (cons_option (told_by_client (λ c. c) b) (filter_map (λ (actor : Actor D g). told_by_client (λ c. c) actor.client) new))) k ≡ Some client → (before : ClientState) × HasPlayedSession plans before client
     one_session new k client more None None h at = more at
     one_session new k client more None (Some b) h at = absurd h
     one_session new k client more (Some a) None h at = absurd h
     one_session new k client more (Some a) (Some b) h at =
         ⊎_elim (λ t. more t) (λ t. (a.end, subst (λ c. HasPlayedSession plans a.end c) t h))
-        (snoc_place (clients_in new) b.end client k (ap (λ l. slice_get l k) (sym (reverse_cons b.end (filter_map (λ (actor : Actor D g). told_of (λ c. c) actor.client) new))) ∙ at))
+        (snoc_place (clients_in new) b.end client k (ap (λ l. slice_get l k) (sym (reverse_cons b.end (filter_map (λ (actor : Actor D g). told_by_client (λ c. c) actor.client) new))) ∙ at))
 
     -- each client played its session
     pub sessions_played : (old new : List (Actor D g)) → AllHavePlayed server plans old new → (k : ℕ) (client : ClientState) → slice_get (clients_in new) k ≡ Some client → (before : ClientState) × HasPlayedSession plans before client
@@ -177,7 +167,7 @@ module _ {D : Type 0} {g : disk.Ghosts D} where
     sessions_played (x ∷ old) [] z k client at = absurd z
     sessions_played (x ∷ old) (y ∷ new) z k client at = one_session new k client (λ t. sessions_played old new z.1 k client t) x.client y.client z.0.acted at
 
-    pub are_closed : (old new : List (Actor D g)) → AllHavePlayed server plans old new → of_clients (λ client. client.plan) old ≡ map plan_of server.sessions.items → AreClosed server (clients_in new)
+    pub are_closed : (old new : List (Actor D g)) → AllHavePlayed server plans old new → of_clients (λ client. client.plan) old ≡ map plan_of_session server.sessions.items → AreClosed server (clients_in new)
     are_closed old new z fixed = record {
       plans = fixed_same old new z ∙ fixed;
       closed = each_place (λ (client : ClientState). client.closed ≡ true) (clients_in new) (λ k client at. (sessions_played old new z k client at).1.closed_is);

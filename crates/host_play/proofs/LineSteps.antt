@@ -2,24 +2,16 @@
 use Rattle.std.proofs.Common.{◌≡◌, ℕ, ◌≤◌, max, Bool, true, false, ◌&&◌, ◌==◌, List, [], ◌∷◌, ◌++◌, length, None, Result, Ok, Err, refl, sym, ap, subst, ◌∙◌, arith, eq-eqb, is_some}
 use Rattle.std.proofs.lemmas.Slice.Eq.{bytes_eq-Decides}
 use Rattle.script_model.proofs.Said.{and_both}
-use Rattle.host_frames.specs.declared.seat.PoolSeat.{PoolSeat}
-use Rattle.host_frames.specs.Seats.{seat_pool}
-use Rattle.host_model.specs.declared.event.AttachError.{AttachError}
+use Rattle.host_frames.specs.{PoolSeat, seat_pool}
+use Rattle.host_model.specs.{AttachError, Event, Attached, NotAttached, Filled, Sent, Shown, Drained, Aborted, received}
 use Rattle.host_model.specs.declared.event.AttachError.TheVariants as attach
-use Rattle.host_model.specs.declared.event.Event.{Event}
-use Rattle.host_model.specs.declared.event.Event.TheVariants.{Attached, NotAttached, Filled, Sent, Shown, Drained, Aborted}
-use Rattle.host_model.specs.Log.{received}
-use Rattle.host_record.specs.declared.finish.Finish.TheVariants.{Abort, Drain}
-use Rattle.host_report.specs.Played.{is_call_for, is_wait}
-use Rattle.host_session.specs.Calls.{IsAttachAnswer, IsFilled, IsShown}
-use Rattle.host_session.specs.Client.{ClientState}
-use Rattle.host_session.specs.Endings.{owed_count}
-use Rattle.host_worker.specs.Waits.{HasAborted, HasDrained, HasReceived, HasSent, received_events}
-use Rattle.script_model.specs.declared.script.ScriptLine.{ScriptLine}
-use Rattle.script_model.specs.declared.script.ScriptLine.TheVariants.{Attach, Fill, Show, Send, WaitAll, WaitFor}
-use Rattle.script_played.specs.Played.{ask_of}
-use Rattle.host_play.specs.Calls.{HasClosed, HasDone}
-use Rattle.host_play.specs.Logs.{HasPlayed, HasPlayedOut}
+use Rattle.host_record.specs.{Abort, Drain}
+use Rattle.host_report.specs.{is_call_for, is_wait}
+use Rattle.host_session.specs.{IsAttachAnswer, IsFilled, IsShown, ClientState, owed_count}
+use Rattle.host_worker.specs.{HasAborted, HasDrained, HasReceived, HasSent, received_events}
+use Rattle.script_model.specs.{ScriptLine, Attach, Fill, Show, Send, WaitAll, WaitFor}
+use Rattle.script_played.specs.{ask_of}
+use Rattle.host_play.specs.{HasClosedClient, HasDone, HasPlayed, HasPlayedOut}
 use Rattle.host_play.proofs.SoFar.{calls_on, ends_on, receives, waited_all, waited_for}
 use Rattle.host_play.proofs.Waits.{owed_more as owed_still}
 
@@ -118,7 +110,7 @@ wait_for_done total old new w enough still = record {
 
 -- ---- the end
 
-pub drain_closed : (old new : ClientState) → HasDrained old new → HasClosed Drain old new
+pub drain_closed : (old new : ClientState) → HasDrained old new → HasClosedClient Drain old new
 drain_closed old new w = record {
   plan = w.plan;
   finish_is = w.finish_is;
@@ -129,7 +121,7 @@ drain_closed old new w = record {
       (ends_on Drain lines (old.log ++ received_events w.answers) Drained (receives lines old.log w.answers p (few_still old.log w.answers p.few guard)) refl);
 }
 
-pub abort_closed : (old new : ClientState) → HasAborted old new → HasClosed Abort old new
+pub abort_closed : (old new : ClientState) → HasAborted old new → HasClosedClient Abort old new
 abort_closed old new w = record {
   plan = w.plan;
   finish_is = w.finish_is;

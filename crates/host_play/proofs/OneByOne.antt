@@ -6,10 +6,8 @@ use Rattle.std.specs.List.{cons_option, filter_map}
 use Rattle.std.proofs.lemmas.List.{map-append}
 use Rattle.std.proofs.lemmas.List.Elements.{filter_map-append}
 use Rattle.host_io.specs.declared.disk.Disk as disk
-use Rattle.host_session.specs.Client.{ClientState}
-use Rattle.host_play.specs.declared.actor.Actor.{Actor}
-use Rattle.host_play.specs.declared.actor.Client.{Client}
-use Rattle.host_play.specs.Casts.{HasTakenClient, IsOneOf, clients_in, end_in, hands_in, told_of}
+use Rattle.host_session.specs.{ClientState}
+use Rattle.host_play.specs.{Actor, Client, HasTakenClient, IsOneOf, clients_in, ends_of_client, hands_in, told_by_client}
 use Rattle.host_play.proofs.Reversed.{reverse_snoc}
 
 -- the element behind a front
@@ -28,23 +26,23 @@ module _ {D : Type 0} {g : disk.Ghosts D} where
   pub hands_snoc : (actors : List (Actor D g)) (a : Actor D g) → hands_in (actors ++ a ∷ []) ≡ a.hand ∷ hands_in actors
   hands_snoc actors a = ap reverse (map-append (λ (actor : Actor D g). actor.hand) actors (a ∷ [])) ∙ reverse_snoc (map (λ (actor : Actor D g). actor.hand) actors) a.hand
 
-  found_snoc : (actors : List (Actor D g)) (a : Actor D g) → filter_map (λ (actor : Actor D g). told_of (λ client. client) actor.client) (actors ++ a ∷ []) ≡ filter_map (λ (actor : Actor D g). told_of (λ client. client) actor.client) actors ++ cons_option (told_of (λ client. client) a.client) []
-  found_snoc actors a = filter_map-append (λ (actor : Actor D g). told_of (λ client. client) actor.client) actors (a ∷ [])
+  found_snoc : (actors : List (Actor D g)) (a : Actor D g) → filter_map (λ (actor : Actor D g). told_by_client (λ client. client) actor.client) (actors ++ a ∷ []) ≡ filter_map (λ (actor : Actor D g). told_by_client (λ client. client) actor.client) actors ++ cons_option (told_by_client (λ client. client) a.client) []
+  found_snoc actors a = filter_map-append (λ (actor : Actor D g). told_by_client (λ client. client) actor.client) actors (a ∷ [])
 
   pub clients_snoc_some : (actors : List (Actor D g)) (a : Actor D g) (c : Client) → a.client ≡ Some c → clients_in (actors ++ a ∷ []) ≡ c.end ∷ clients_in actors
   clients_snoc_some actors a c is =
-      ap reverse (found_snoc actors a ∙ ap (λ o. filter_map (λ (actor : Actor D g). told_of (λ client. client) actor.client) actors ++ cons_option (told_of (λ client. client) o) []) is)
-      ∙ reverse_snoc (filter_map (λ (actor : Actor D g). told_of (λ client. client) actor.client) actors) c.end
+      ap reverse (found_snoc actors a ∙ ap (λ o. filter_map (λ (actor : Actor D g). told_by_client (λ client. client) actor.client) actors ++ cons_option (told_by_client (λ client. client) o) []) is)
+      ∙ reverse_snoc (filter_map (λ (actor : Actor D g). told_by_client (λ client. client) actor.client) actors) c.end
 
   pub clients_snoc_none : (actors : List (Actor D g)) (a : Actor D g) → a.client ≡ None → clients_in (actors ++ a ∷ []) ≡ clients_in actors
   clients_snoc_none actors a is =
-      ap reverse (found_snoc actors a ∙ ap (λ o. filter_map (λ (actor : Actor D g). told_of (λ client. client) actor.client) actors ++ cons_option (told_of (λ client. client) o) []) is ∙ append-nil _)
+      ap reverse (found_snoc actors a ∙ ap (λ o. filter_map (λ (actor : Actor D g). told_by_client (λ client. client) actor.client) actors ++ cons_option (told_by_client (λ client. client) o) []) is ∙ append-nil _)
 
   -- the end of its client goes before the others
-  pub clients_snoc : (actors : List (Actor D g)) (a : Actor D g) → clients_in (actors ++ a ∷ []) ≡ end_in a.client ++ clients_in actors
+  pub clients_snoc : (actors : List (Actor D g)) (a : Actor D g) → clients_in (actors ++ a ∷ []) ≡ ends_of_client a.client ++ clients_in actors
   clients_snoc actors a = by a.client refl
     where
-      by : (o : Option Client) → a.client ≡ o → clients_in (actors ++ a ∷ []) ≡ end_in o ++ clients_in actors
+      by : (o : Option Client) → a.client ≡ o → clients_in (actors ++ a ∷ []) ≡ ends_of_client o ++ clients_in actors
       by None is = clients_snoc_none actors a is
       by (Some c) is = clients_snoc_some actors a c is
 

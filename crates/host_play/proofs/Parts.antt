@@ -3,41 +3,32 @@ use Rattle.std.proofs.Common.{◌≡◌, ℕ, true, false, List, [], ◌∷◌, 
 use Rattle.std.specs.List.{list_any, sum_by}
 use Rattle.std.proofs.lemmas.List.Elements.{All-head, All-tail}
 use Rattle.std.proofs.lemmas.List.Sums.{sum_by-cons}
-use Rattle.host_frames.specs.Claims.{asked_by}
-use Rattle.host_frames.specs.Seats.{asked}
-use Rattle.host_hand.specs.Frames.{frames_out, released_by, taken_out}
-use Rattle.host_intake.specs.declared.entry.IntakeEntry.{IntakeEntry}
+use Rattle.host_frames.specs.{frames_in_claims, frames_asked}
+use Rattle.host_hand.specs.{frames_out, released_by, taken_out}
+use Rattle.host_intake.specs.{IntakeEntry}
 use Rattle.host_io.specs.declared.disk.Disk as disk
-use Rattle.host_report.specs.Lawful.{is_short_of_frames}
-use Rattle.host_session.specs.Client.{ClientState}
-use Rattle.host_session.specs.Opened.{IsNewClient}
-use Rattle.host_session.specs.Plan.{IsFresh}
-use Rattle.host_session.specs.declared.hand.SessionHand.{SessionHand}
-use Rattle.host_turn.specs.Seats.{seen_by}
-use Rattle.host_worker.specs.declared.hand.Hand.{Hand}
-use Rattle.host_worker.specs.declared.server.Server.{Server}
-use Rattle.host_worker.specs.Accounts.{frames_of, pages_attached_by, released_of}
-use Rattle.host_worker.specs.Hands.{IsNewHand, pool_seat_of}
-use Rattle.script_model.specs.Plans.{SessionPlan}
-use Rattle.host_play.specs.declared.actor.Client.{Client}
-use Rattle.host_play.specs.Actors.{HasPlayedPart, HasPlayedSession, IsReady}
-use Rattle.host_play.specs.Calls.{HasHelped, HasWorkedAlone, IsSquare, IsSquareAlone}
+use Rattle.host_report.specs.{is_short_of_frames}
+use Rattle.host_session.specs.{ClientState, IsNewClient, IsFreshHand, SessionHand}
+use Rattle.host_turn.specs.{seen_by}
+use Rattle.host_worker.specs.{Hand, Server, frames_of, pages_attached_by, released_of, IsNewHand, pool_seat_of}
+use Rattle.script_model.specs.{PlannedSession}
+use Rattle.host_play.specs.{Client, HasPlayedPart, HasPlayedSession, IsClientReady, HasHelped, HasWorkedAlone, IsSquare, IsSquareAlone}
 
 -- a hand that has seen nothing took out no pages
-frames_none : (n : ℕ) (hands : List SessionHand) → All IsFresh hands → sum_by (frames_out n) hands ≡ 0
+frames_none : (n : ℕ) (hands : List SessionHand) → All IsFreshHand hands → sum_by (frames_out n) hands ≡ 0
 frames_none n [] all = refl
 frames_none n (h ∷ hands) all =
-    let fresh = All-head IsFresh h hands all in
+    let fresh = All-head IsFreshHand h hands all in
     let none : frames_out n h ≡ 0 = ap (λ (es : List IntakeEntry). taken_out n es (seen_by h.memory)) fresh.intake ∙ ap (taken_out n []) fresh.memory in
     let sums = sum_by-cons (frames_out n) h hands in
-    omega (arith, sums, none, frames_none n hands (All-tail IsFresh h hands all))
+    omega (arith, sums, none, frames_none n hands (All-tail IsFreshHand h hands all))
 
 module _ {D : Type 0} {g : disk.Ghosts D} (hand : Hand D g) (new : IsNewHand hand) where
   frames_new : frames_of hand ≡ 0
   frames_new = frames_none hand.number hand.sessions.items new.sessions
 
-  asked_new : asked (pool_seat_of hand) ≡ 0
-  asked_new = ap asked_by new.pool.0
+  asked_new : frames_asked (pool_seat_of hand) ≡ 0
+  asked_new = ap frames_in_claims new.pool.0
 
   pub square_alone_new : IsSquareAlone hand
   square_alone_new = record { granted_is = new.pool.1; asked_is = asked_new; given_back_is = new.pool.2 ∙ sym frames_new }
@@ -53,14 +44,15 @@ module _ {D : Type 0} {g : disk.Ghosts D} (hand : Hand D g) (new : IsNewHand han
       nothing_short : {A : Type 0} → false ≡ true → A
       nothing_short h = cc h
 
-module _ {D : Type 0} {g : disk.Ghosts D} (server : Server D g) (plans : List SessionPlan) (old new : Hand D g) (fresh : IsNewHand old) where
-  pub client_part : (client client' : Client) → IsReady plans client → HasPlayedSession plans client.end client'.end → HasHelped server old new client.end client'.end
+module _ {D : Type 0} {g : disk.Ghosts D} (server : Server D g) (plans : List PlannedSession) (old new : Hand D g) (fresh : IsNewHand old) where
+  pub client_part : (client client' : Client) → IsClientReady plans client → HasPlayedSession plans client.end client'.end → HasHelped server old new client.end client'.end
       → HasPlayedPart server plans (record { hand = old; client = Some client }) (record { hand = new; client = Some client' })
   client_part client client' r played helped = record {
     hand = helped.hand;
     number_is = helped.number_is;
     square = helped.account (square_new old fresh client.end r.new);
     acted = played;
+    stayed = tt;
   }
 
   pub worker_part : HasWorkedAlone server old new → HasPlayedPart server plans (record { hand = old; client = None }) (record { hand = new; client = None })
@@ -69,4 +61,5 @@ module _ {D : Type 0} {g : disk.Ghosts D} (server : Server D g) (plans : List Se
     number_is = worked.number_is;
     square = worked.account (square_alone_new old fresh);
     acted = tt;
+    stayed = worked.closed;
   }

@@ -7,24 +7,13 @@ use Rattle.std.proofs.lemmas.List.FromFn.{length-range_with_len}
 use mathlib.Core.List.{map-map}
 use Rattle.host_block.specs.declared.range.Range.{Range}
 use Rattle.host_io.specs.declared.disk.Disk as disk
-use Rattle.host_model.specs.Lists.{below}
-use Rattle.host_report.specs.declared.report.Report.{Report}
-use Rattle.host_report.specs.declared.session.SessionReport.{SessionReport}
-use Rattle.host_session.specs.Client.{ClientState}
-use Rattle.host_session.specs.Plan.{SessionPlan as Fixed}
-use Rattle.host_worker.specs.declared.server.Server.{Server}
-use Rattle.host_worker.specs.declared.session.Session.{Session}
-use Rattle.host_worker.specs.Ends.{AreEnded, EndsState, hand_end}
-use Rattle.host_worker.specs.Gathered.{IsGathered}
-use Rattle.host_worker.specs.Servers.{IsServer, plan_of}
-use Rattle.host_worker.specs.Shares.{specs_of}
-use Rattle.script_model.specs.Plans.{SessionPlan}
-use Rattle.script_played.specs.Played.{PlaysPlans}
-use Rattle.host_play.specs.declared.actor.Actor.{Actor}
-use Rattle.host_play.specs.Actors.{HasPlayedPart}
-use Rattle.host_play.specs.Casts.{AllHavePlayed, clients_in, hands_in, numbers_of, of_clients}
-use Rattle.host_play.specs.Opened.{specs_from}
-use Rattle.host_play.specs.Plays.{HasPerformed, IsReportOf}
+use Rattle.host_model.specs.{below}
+use Rattle.host_report.specs.{Report, SessionReport}
+use Rattle.host_session.specs.{ClientState, SessionPlan as Fixed}
+use Rattle.host_worker.specs.{Server, Session, AreEnded, EndsState, hand_end, IsReportGathered, IsServer, plan_of_session, specs_of}
+use Rattle.script_model.specs.{PlannedSession}
+use Rattle.script_played.specs.{PlaysPlans}
+use Rattle.host_play.specs.{Actor, HasPlayedPart, AllHavePlayed, clients_in, hands_in, numbers_of, of_clients, specs_from, HasPerformed, IsReportOf}
 use Rattle.host_play.proofs.Leaving.{are_hands, fixed_same, sessions_played}
 use Rattle.host_play.proofs.Reporting.{plays, ranges_are}
 use Rattle.host_play.proofs.Reversed.{zipped_length}
@@ -40,14 +29,14 @@ written_back : {A : Type 0} (n : ℕ) (old new : List A) → n ≡ length old �
 written_back n old new many same = take-append-le n new (drop (length new) old) (omega (arith, many, same)) ∙ take_all n new (omega (arith, many, same))
 
 -- those of the stage played their parts
-pub stage_played : {D : Type 0} {g : disk.Ghosts D} (server : Server D g) (plans : List SessionPlan) (actors : Vec (Actor D g) Global) (lent new : List (Actor D g)) → lent ≡ actors.items → AllHavePlayed server plans lent new
+pub stage_played : {D : Type 0} {g : disk.Ghosts D} (server : Server D g) (plans : List PlannedSession) (actors : Vec (Actor D g) Global) (lent new : List (Actor D g)) → lent ≡ actors.items → AllHavePlayed server plans lent new
     → AllHavePlayed server plans actors.items new × (take actors.len (new ++ drop (length new) actors.items) ≡ new)
 stage_played {D} {g} server plans actors lent new same z =
     let all : AllHavePlayed server plans actors.items new = subst (λ (l : List (Actor D g)). AllHavePlayed server plans l new) same z in
     (all, written_back actors.len actors.items new actors.ok.0 (zipped_length (HasPlayedPart server plans) actors.items new all))
 
-module _ {D : Type 0} {g : disk.Ghosts D} (server : Server D g) (plans : List SessionPlan) (old new : List (Actor D g)) (z : AllHavePlayed server plans old new)
-    (numbers : numbers_of old ≡ below server.hands) (clients : of_clients (λ client. client.plan) old ≡ map plan_of server.sessions.items) where
+module _ {D : Type 0} {g : disk.Ghosts D} (server : Server D g) (plans : List PlannedSession) (old new : List (Actor D g)) (z : AllHavePlayed server plans old new)
+    (numbers : numbers_of old ≡ below server.hands) (clients : of_clients (λ client. client.plan) old ≡ map plan_of_session server.sessions.items) where
   -- as many as the server has hands, and as many clients as it has sessions
   pub all_count : length new ≡ server.hands
   all_count =
@@ -57,7 +46,7 @@ module _ {D : Type 0} {g : disk.Ghosts D} (server : Server D g) (plans : List Se
   pub client_count : length (clients_in new) ≡ length server.sessions.items
   client_count =
       sym (length-map (clients_in new) (λ (client : ClientState). client.plan)) ∙ ap (λ (l : List Fixed). length l) (fixed_same server plans old new z ∙ clients)
-      ∙ length-map server.sessions.items plan_of
+      ∙ length-map server.sessions.items plan_of_session
 
   pub performed : (ends : EndsState) → AreEnded (clients_in new) (map hand_end (hands_in new)) ends → HasPerformed plans server ends
   performed ends ended = record {
@@ -71,13 +60,13 @@ module _ {D : Type 0} {g : disk.Ghosts D} (server : Server D g) (plans : List Se
 
 -- ---- the report
 
-module _ {D : Type 0} {g : disk.Ghosts D} (server : Server D g) (running : IsServer server) (plans : List SessionPlan) (ranges : List Range) (workers depth : ℕ) (report : Report) (ends : EndsState)
-    (h : HasPerformed plans server ends) (gathered : IsGathered ends report) (specs : specs_of server.sessions.items ≡ specs_from 1 plans ranges report.size depth) (hands : server.hands ≡ workers + length plans) where
+module _ {D : Type 0} {g : disk.Ghosts D} (server : Server D g) (running : IsServer server) (plans : List PlannedSession) (ranges : List Range) (workers depth : ℕ) (report : Report) (ends : EndsState)
+    (h : HasPerformed plans server ends) (gathered : IsReportGathered ends report) (specs : specs_of server.sessions.items ≡ specs_from 1 plans ranges report.size depth) (hands : server.hands ≡ workers + length plans) where
   client_specs : map (λ (client : ClientState). client.plan.spec) h.clients ≡ specs_from 1 plans ranges report.size depth
   client_specs =
       sym (map-map (λ (p : Fixed). p.spec) (λ (client : ClientState). client.plan) h.clients) ∙ ap (map (λ (p : Fixed). p.spec)) h.plans_are
-      ∙ map-map (λ (p : Fixed). p.spec) plan_of server.sessions.items
-      ∙ map_places (λ (s : Session). (plan_of s).spec) (λ (s : Session). s.spec) server.sessions.items (λ k s at. (running.sessions k s at).spec)
+      ∙ map-map (λ (p : Fixed). p.spec) plan_of_session server.sessions.items
+      ∙ map_places (λ (s : Session). (plan_of_session s).spec) (λ (s : Session). s.spec) server.sessions.items (λ k s at. (running.sessions k s at).spec)
       ∙ specs
 
   is_report : IsReportOf plans ranges workers depth report

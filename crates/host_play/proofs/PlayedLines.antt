@@ -3,17 +3,10 @@ use Rattle.std.proofs.Common.{◌≡◌, ℕ, ◌+◌, ◌<◌, List, [], ◌∷
 use Rattle.std.proofs.lemmas.List.{drop_more, take-append-drop, take_all, take_more}
 use Rattle.std.proofs.lemmas.List.Elements.{All-get_or}
 use Rattle.host_io.specs.declared.disk.Disk as disk
-use Rattle.host_session.specs.Client.{ClientState}
-use Rattle.host_session.specs.Kept.{IsClient}
-use Rattle.host_session.specs.Opened.{IsNewClient}
-use Rattle.host_worker.specs.declared.hand.Hand.{Hand}
-use Rattle.host_worker.specs.declared.server.Server.{Server}
-use Rattle.host_worker.specs.Hands.{IsHandOf}
-use Rattle.script_model.specs.declared.script.ScriptLine.{ScriptLine}
-use Rattle.host_play.specs.Calls.{CanPlay, HasDone, HasHelped, MayPlay}
-use Rattle.host_play.specs.Logs.{HasPlayed}
-use Rattle.host_play.specs.Opened.{HasRoomFor}
-use Rattle.host_play.specs.Pieces.{ArePieces, IsNextPiece, WasTaken, piece_length}
+use Rattle.host_session.specs.{ClientState, IsClient, IsNewClient}
+use Rattle.host_worker.specs.{Hand, Server, IsHandOf}
+use Rattle.script_model.specs.{ScriptLine}
+use Rattle.host_play.specs.{CanPlay, HasDone, HasHelped, MayPlay, HasPlayed, HasRoomForLines, ArePieces, IsNextPiece, WasTaken, piece_length}
 use Rattle.host_play.proofs.Rooms.{may_play}
 use Rattle.host_play.proofs.Showing.{left_pieces, next_piece}
 use Rattle.host_play.proofs.SoFar.{played_none}
@@ -25,7 +18,7 @@ module _ (lines : List ScriptLine) (i : ℕ) (line : ScriptLine) (less : i < len
   pub taken_here : take (i + 1) lines ≡ take i lines ++ line ∷ []
   taken_here = take_more lines i line less ∙ ap (λ (x : ScriptLine). take i lines ++ x ∷ []) (sym is)
 
-  pub may_next : (client : ClientState) → IsClient client → HasPlayed (take i lines) client.log → HasRoomFor lines client.plan.spec → client.finish ≡ None → MayPlay line client
+  pub may_next : (client : ClientState) → IsClient client → HasPlayed (take i lines) client.log → HasRoomForLines lines client.plan.spec → client.finish ≡ None → MayPlay line client
   may_next client is_client p room still = may_play client lines (take i lines) (drop (i + 1) lines) line split_here is_client p room still
 
   rest_here : (size : ℕ) (pieces : List (List ℕ)) → ArePieces size (drop i lines) pieces → ArePieces size (line ∷ drop (i + 1) lines) pieces

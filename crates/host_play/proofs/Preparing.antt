@@ -7,13 +7,9 @@ use Rattle.std.proofs.lemmas.List.{length-map, length-take-le, map-append, take_
 use Rattle.std.proofs.lemmas.List.Elements.{filter_map-append}
 use Rattle.std.proofs.lemmas.Option.{slice_get_within}
 use Rattle.host_block.specs.declared.range.Range.{Range}
-use Rattle.host_session.proofs.Snoc.{slice_get_snoc}
-use Rattle.script_model.specs.declared.script.ScriptLine.{ScriptLine}
-use Rattle.script_model.specs.declared.script.SessionScript.{SessionScript}
-use Rattle.script_model.specs.Plans.{SessionPlan, plan_of}
-use Rattle.host_play.specs.Casts.{AreAllPieces}
-use Rattle.host_play.specs.Opened.{spec_for, specs_from}
-use Rattle.host_play.specs.Pieces.{ArePieces, piece_length, piece_lengths}
+use Rattle.host_log.proofs.Places.{get_snoc}
+use Rattle.script_model.specs.{ScriptLine, SessionScript, PlannedSession, plan_of}
+use Rattle.host_play.specs.{AreAllPieces, spec_for, specs_from, ArePieces, piece_length, piece_lengths}
 use Rattle.host_play.proofs.Reporting.{specs_length}
 use Rattle.host_play.proofs.Reversed.{map-reverse}
 
@@ -33,7 +29,7 @@ plans_more sessions k session less is = ap (map plan_of) (taken_more sessions k 
 -- ---- specs
 
 -- one session more
-specs_more : (n : ℕ) (plans : List SessionPlan) (ranges : List Range) (plan : SessionPlan) (range : Range) (size depth : ℕ) → length ranges ≡ length plans
+specs_more : (n : ℕ) (plans : List PlannedSession) (ranges : List Range) (plan : PlannedSession) (range : Range) (size depth : ℕ) → length ranges ≡ length plans
     → specs_from n (plans ++ plan ∷ []) (ranges ++ range ∷ []) size depth ≡ specs_from n plans ranges size depth ++ spec_for (n + length plans) plan range size depth ∷ []
 specs_more n [] [] plan range size depth same = ap (λ m. spec_for m plan range size depth ∷ []) (omega arith)
 specs_more n [] (r ∷ ranges) plan range size depth same = absurd (omega arith)
@@ -45,7 +41,7 @@ specs_more n (p ∷ plans) (r ∷ ranges) plan range size depth same =
 pub next_spec : (sessions : List SessionScript) (ranges : List Range) (size depth k : ℕ) (session : SessionScript) (d : Range) → length ranges ≡ length sessions → k < length sessions → session ≡ get_or sessions k session
     → specs_from 1 (map plan_of (take (k + 1) sessions)) (take (k + 1) ranges) size depth ≡ specs_from 1 (map plan_of (take k sessions)) (take k ranges) size depth ++ spec_for (k + 1) (plan_of session) (get_or ranges k d) size depth ∷ []
 next_spec sessions ranges size depth k session d same less is =
-    let plans : List SessionPlan = map plan_of (take k sessions) in
+    let plans : List PlannedSession = map plan_of (take k sessions) in
     let count : length plans ≡ k = length-map (take k sessions) plan_of ∙ length-take-le k sessions (omega (arith, less)) in
     let many : length (take k ranges) ≡ k = length-take-le k ranges (omega (arith, less, same)) in
     ap (λ l. specs_from 1 l (take (k + 1) ranges) size depth) (plans_more sessions k session less is)
@@ -86,17 +82,17 @@ turned size lines i pieces other all so_far is =
 
 -- ---- the pieces of sessions
 
-one_more : (size : ℕ) (plans : List SessionPlan) (plan : SessionPlan) (all : List (Vec (List ℕ) Global)) (some : Vec (List ℕ) Global) → AreAllPieces size plans all → ArePieces size plan.lines some.items → AreAllPieces size (plans ++ plan ∷ []) (all ++ some ∷ [])
+one_more : (size : ℕ) (plans : List PlannedSession) (plan : PlannedSession) (all : List (Vec (List ℕ) Global)) (some : Vec (List ℕ) Global) → AreAllPieces size plans all → ArePieces size plan.lines some.items → AreAllPieces size (plans ++ plan ∷ []) (all ++ some ∷ [])
 one_more size plans plan all some so_far its = record {
   count = omega (arith, so_far.count, length-append plans (plan ∷ []), length-append all (some ∷ []));
-  each = λ k p s at there. both k p s (slice_get_snoc plans plan p k at) (slice_get_snoc all some s k there);
+  each = λ k p s at there. both k p s (get_snoc plans plan p k at) (get_snoc all some s k there);
 }
   where
-    both : (k : ℕ) (p : SessionPlan) (s : Vec (List ℕ) Global) → (slice_get plans k ≡ Some p) ⊎ ((k ≡ length plans) × (plan ≡ p)) → (slice_get all k ≡ Some s) ⊎ ((k ≡ length all) × (some ≡ s)) → ArePieces size p.lines s.items
+    both : (k : ℕ) (p : PlannedSession) (s : Vec (List ℕ) Global) → (slice_get plans k ≡ Some p) ⊎ ((k ≡ length plans) × (plan ≡ p)) → (slice_get all k ≡ Some s) ⊎ ((k ≡ length all) × (some ≡ s)) → ArePieces size p.lines s.items
     both k p s (inl at) (inl there) = so_far.each k p s at there
     both k p s (inl at) (inr there) = absurd (omega (arith, slice_get_within plans k p at, there.0, so_far.count))
     both k p s (inr at) (inl there) = absurd (omega (arith, slice_get_within all k s there, at.0, so_far.count))
-    both k p s (inr at) (inr there) = subst (λ (q : SessionPlan). ArePieces size q.lines s.items) at.1 (subst (λ (v : Vec (List ℕ) Global). ArePieces size plan.lines v.items) there.1 its)
+    both k p s (inr at) (inr there) = subst (λ (q : PlannedSession). ArePieces size q.lines s.items) at.1 (subst (λ (v : Vec (List ℕ) Global). ArePieces size plan.lines v.items) there.1 its)
 
 pub next_pieces : (size : ℕ) (sessions : List SessionScript) (k : ℕ) (session : SessionScript) (all new : List (Vec (List ℕ) Global)) (some : Vec (List ℕ) Global) → k < length sessions → session ≡ get_or sessions k session
     → AreAllPieces size (map plan_of (take k sessions)) all → ArePieces size session.lines.items some.items → new ≡ all ++ some ∷ [] → AreAllPieces size (map plan_of (take (k + 1) sessions)) new

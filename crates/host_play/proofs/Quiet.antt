@@ -1,11 +1,9 @@
 -- Lines that leave the account of a client as it was.
 use Rattle.std.proofs.Common.{◌≡◌, ℕ, Bool, List, [], ◌∷◌, ◌++◌, refl, ap}
-use Rattle.host_model.specs.declared.event.Event.TheVariants.{Aborted, Drained, Filled, Sent, Shown}
-use Rattle.host_session.specs.Calls.{IsFilled, IsShown}
-use Rattle.host_session.specs.Client.{ClientState}
-use Rattle.host_worker.specs.Accounts.{released_of}
-use Rattle.host_worker.specs.Waits.{HasReceived, HasSent, received_events}
-use Rattle.host_play.specs.Calls.{IsAsBefore}
+use Rattle.host_model.specs.{Aborted, Drained, Filled, Sent, Shown}
+use Rattle.host_session.specs.{IsFilled, IsShown, ClientState}
+use Rattle.host_worker.specs.{released_of, HasReceived, HasSent, received_events}
+use Rattle.host_play.specs.{IsAsBefore}
 use Rattle.host_play.proofs.Accounts.{AreSilent, as_before, as_before_trans, silent_answers, silent_then}
 
 pub filled_before : (id block count byte : ℕ) (old new : ClientState) (done : Bool) → IsFilled id block count byte old new done → released_of new ≡ released_of old → IsAsBefore old new

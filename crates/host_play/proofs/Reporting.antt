@@ -1,33 +1,28 @@
 -- The report of a run, from what its clients have played and how its server ended.
-use Rattle.std.proofs.Common.{◌≡◌, ℕ, zero, suc, ◌+◌, ◌-◌, ◌<◌, List, [], ◌∷◌, length, map, Some, refl, sym, ap, subst, ◌∙◌, arith}
+use Rattle.std.proofs.Common.{◌≡◌, ℕ, zero, suc, ◌+◌, ◌-◌, List, [], ◌∷◌, length, map, Some, refl, sym, ap, subst, ◌∙◌, arith}
 use Rattle.std.specs.Prelude.{slice_get}
 use Rattle.std.proofs.lemmas.List.{length-map}
 use Rattle.std.proofs.lemmas.Option.{slice_get_within}
 use Rattle.host_block.specs.declared.range.Range.{Range}
-use Rattle.host_report.specs.Played.{IsPlayedBy, Plan}
-use Rattle.host_report.specs.declared.report.Report.{Report}
-use Rattle.host_report.specs.declared.session.SessionReport.{SessionReport}
-use Rattle.host_session.specs.Client.{ClientState}
-use Rattle.host_session.specs.declared.spec.SessionSpec.{SessionSpec}
-use Rattle.host_worker.specs.Ends.{IsSessionEnd}
+use Rattle.host_report.specs.{IsPlayedBy, Plan, Report, SessionReport}
+use Rattle.host_session.specs.{ClientState, SessionSpec}
+use Rattle.host_worker.specs.{IsSessionEnd}
 use Rattle.host_worker.proofs.Lists.{map_at, map_from}
-use Rattle.script_model.specs.Plans.{SessionPlan}
-use Rattle.script_played.specs.Played.{PlaysPlans, asked_of}
-use Rattle.host_play.specs.Actors.{HasPlayedSession}
-use Rattle.host_play.specs.Logs.{HasPlayedOut}
-use Rattle.host_play.specs.Opened.{spec_for, specs_from}
-use Rattle.host_play.specs.Plays.{IsReportOf}
+use Rattle.script_model.specs.{PlannedSession}
+use Rattle.script_played.specs.{PlaysPlans, asked_of}
+use Rattle.host_play.specs.{HasPlayedSession, HasPlayedOut, spec_for, specs_from, IsReportOf}
 use Rattle.host_play.proofs.Reversed.{some_same, zipped_at}
+use Rattle.host_log.proofs.Places.{some_at}
 
 -- ---- the specs of sessions
 
-pub specs_length : (n : ℕ) (plans : List SessionPlan) (ranges : List Range) (size depth : ℕ) → length ranges ≡ length plans → length (specs_from n plans ranges size depth) ≡ length plans
+pub specs_length : (n : ℕ) (plans : List PlannedSession) (ranges : List Range) (size depth : ℕ) → length ranges ≡ length plans → length (specs_from n plans ranges size depth) ≡ length plans
 specs_length n [] ranges size depth same = refl
 specs_length n (plan ∷ plans) [] size depth same = absurd (omega arith)
 specs_length n (plan ∷ plans) (range ∷ ranges) size depth same = ap suc (specs_length (n + 1) plans ranges size depth (omega arith))
 
 -- the spec at a place is of the plan and the range there
-pub spec_at : (n : ℕ) (plans : List SessionPlan) (ranges : List Range) (size depth k : ℕ) (plan : SessionPlan) (spec : SessionSpec) → slice_get plans k ≡ Some plan → slice_get (specs_from n plans ranges size depth) k ≡ Some spec
+pub spec_at : (n : ℕ) (plans : List PlannedSession) (ranges : List Range) (size depth k : ℕ) (plan : PlannedSession) (spec : SessionSpec) → slice_get plans k ≡ Some plan → slice_get (specs_from n plans ranges size depth) k ≡ Some spec
     → (range : Range) × (slice_get ranges k ≡ Some range) × (spec ≡ spec_for (n + k) plan range size depth)
 spec_at n [] ranges size depth k plan spec here there = absurd (cc here)
 spec_at n (p ∷ plans) [] size depth k plan spec here there = absurd (cc there)
@@ -41,11 +36,6 @@ spec_at n (p ∷ plans) (r ∷ ranges) size depth (suc k) plan spec here there =
 
 -- ---- places
 
-pub stands : {A : Type 0} (xs : List A) (k : ℕ) → k < length xs → (x : A) × (slice_get xs k ≡ Some x)
-stands [] k less = absurd (omega arith)
-stands (x ∷ xs) zero less = (x, refl)
-stands (x ∷ xs) (suc k) less = stands xs k (omega arith)
-
 same_places : {A : Type 0} (xs ys : List A) → length xs ≡ length ys → ((k : ℕ) (x y : A) → slice_get xs k ≡ Some x → slice_get ys k ≡ Some y → x ≡ y) → xs ≡ ys
 same_places [] [] n h = refl
 same_places [] (y ∷ ys) n h = absurd (omega arith)
@@ -56,10 +46,10 @@ same_places {A} (x ∷ xs) (y ∷ ys) n h =
 -- ---- one session
 
 -- the session's report is that of the plan at its place
-module _ (plans : List SessionPlan) (ranges : List Range) (report : Report) (workers depth : ℕ) (is : IsReportOf plans ranges workers depth report)
+module _ (plans : List PlannedSession) (ranges : List Range) (report : Report) (workers depth : ℕ) (is : IsReportOf plans ranges workers depth report)
     (played : (k : ℕ) (client : ClientState) → slice_get is.clients k ≡ Some client → (before : ClientState) × HasPlayedSession plans before client) where
   clients_stand : (k : ℕ) (s : SessionReport) → slice_get report.sessions.items k ≡ Some s → (client : ClientState) × (slice_get is.clients k ≡ Some client)
-  clients_stand k s at = stands is.clients k (omega (arith, slice_get_within report.sessions.items k s at, ap (λ (l : List SessionReport). length l) is.gathered.sessions_are, is.ended.count))
+  clients_stand k s at = some_at is.clients k (omega (arith, slice_get_within report.sessions.items k s at, ap (λ (l : List SessionReport). length l) is.gathered.sessions_are, is.ended.count))
 
   ended_so : (k : ℕ) (s : SessionReport) (at : slice_get report.sessions.items k ≡ Some s) → IsSessionEnd k (clients_stand k s at).0 is.hands s
   ended_so k s at = is.ended.each k (clients_stand k s at).0 s (clients_stand k s at).1 (ap (λ l. slice_get l k) (sym is.gathered.sessions_are) ∙ at)
@@ -67,7 +57,7 @@ module _ (plans : List SessionPlan) (ranges : List Range) (report : Report) (wor
   spec_stands : (k : ℕ) (s : SessionReport) (at : slice_get report.sessions.items k ≡ Some s) → slice_get (specs_from 1 plans ranges report.size depth) k ≡ Some (clients_stand k s at).0.plan.spec
   spec_stands k s at = ap (λ l. slice_get l k) (sym is.specs_are) ∙ map_at (λ (client : ClientState). client.plan.spec) is.clients k (clients_stand k s at).0 (clients_stand k s at).1
 
-  played_by : (k : ℕ) (plan : SessionPlan) (s : SessionReport) → slice_get plans k ≡ Some plan → slice_get report.sessions.items k ≡ Some s → IsPlayedBy (asked_of plan) s
+  played_by : (k : ℕ) (plan : PlannedSession) (s : SessionReport) → slice_get plans k ≡ Some plan → slice_get report.sessions.items k ≡ Some s → IsPlayedBy (asked_of plan) s
   played_by k plan s here at =
       let client = (clients_stand k s at).0 in
       let end = ended_so k s at in
@@ -78,10 +68,10 @@ module _ (plans : List SessionPlan) (ranges : List Range) (report : Report) (wor
       let spec = spec_at 1 plans ranges report.size depth k plan client.plan.spec here (spec_stands k s at) in
       let log_is : s.log.items ≡ client.log = end.whole.log_is in
       let out : HasPlayedOut plan.finish plan.lines s.log.items =
-      subst (λ l. HasPlayedOut plan.finish plan.lines l) (sym log_is) (subst (λ (p : SessionPlan). HasPlayedOut p.finish p.lines client.log) same session.played) in
+      subst (λ l. HasPlayedOut plan.finish plan.lines l) (sym log_is) (subst (λ (p : PlannedSession). HasPlayedOut p.finish p.lines client.log) same session.played) in
       record {
         part = end.plan.0 ∙ ap (λ (sp : SessionSpec). sp.part_number) spec.2;
-        finish = some_same (sym end.finish_is ∙ session.finish_is ∙ ap (λ (p : SessionPlan). Some p.finish) same);
+        finish = some_same (sym end.finish_is ∙ session.finish_is ∙ ap (λ (p : PlannedSession). Some p.finish) same);
         calls = out.calls;
         waits = out.waits;
       }
@@ -102,7 +92,7 @@ module _ (plans : List SessionPlan) (ranges : List Range) (report : Report) (wor
   range_at : (k : ℕ) (r range : Range) → length ranges ≡ length plans → slice_get (map (λ (s : SessionReport). s.range) report.sessions.items) k ≡ Some r → slice_get ranges k ≡ Some range → r ≡ range
   range_at k r range same at there =
       let from = map_from (λ (s : SessionReport). s.range) report.sessions.items k r at in
-      let plan = stands plans k (omega (arith, same, slice_get_within ranges k range there)) in
+      let plan = some_at plans k (omega (arith, same, slice_get_within ranges k range there)) in
       let spec = spec_at 1 plans ranges report.size depth k plan.0 (clients_stand k from.0 from.1).0.plan.spec plan.1 (spec_stands k from.0 from.1) in
       from.2 ∙ (ended_so k from.0 from.1).plan.1 ∙ ap (λ (sp : SessionSpec). sp.part) spec.2 ∙ some_same (sym spec.1 ∙ there)
 

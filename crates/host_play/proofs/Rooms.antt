@@ -6,34 +6,24 @@ use Rattle.std.proofs.lemmas.List.{length-map}
 use Rattle.std.proofs.lemmas.List.Sums.{length-filter, sum_by-append, sum_by-cons}
 use Rattle.std.proofs.lemmas.Bool.Decides.{leb_tells}
 use Rattle.script_model.proofs.PrintedValues.{and_true}
-use Rattle.host_record.specs.Request.{request_of}
-use Rattle.host_model.specs.declared.event.Event.{Event}
-use Rattle.host_model.specs.declared.event.Event.TheVariants.{Attached, NotAttached, Filled, Sent, Received, Shown, Drained, Aborted}
-use Rattle.host_model.specs.Lists.{count}
-use Rattle.host_model.specs.Log.{given, received, requests, sent}
-use Rattle.host_model.specs.Taking.{is_end}
-use Rattle.host_report.specs.Played.{Ask, attach, calls_asked, calls_in, fill, is_call_for, is_received, send, show}
-use Rattle.host_session.specs.Client.{ClientState}
-use Rattle.host_session.specs.Kept.{IsClient}
+use Rattle.host_record.specs.{request_of}
+use Rattle.host_model.specs.{Event, Attached, NotAttached, Filled, Sent, Received, Shown, Drained, Aborted, count, given, received, requests, sent, is_end}
+use Rattle.host_report.specs.{LineAsk, attach, calls_asked, calls_in, fill, is_call_for, is_received, send, show}
+use Rattle.host_session.specs.{ClientState, IsClient}
 use Rattle.host_session.proofs.Requests.{owed_few}
 use Rattle.host_session.proofs.Times.{count_split}
-use Rattle.host_worker.specs.Waits.{MayWait}
-use Rattle.script_model.specs.Limit.{is_record}
-use Rattle.script_model.specs.declared.script.ScriptLine.{ScriptLine}
-use Rattle.script_model.specs.declared.script.ScriptLine.TheVariants.{Attach, Fill, Show, Send, WaitAll, WaitFor}
-use Rattle.host_play.specs.Calls.{MayPlay}
-use Rattle.host_play.specs.Counts.{attach_count, call_count, is_attach, is_call, record_count}
-use Rattle.host_play.specs.Logs.{HasPlayed, are_calls, asks_of}
-use Rattle.host_play.specs.Opened.{HasRoomFor}
+use Rattle.host_worker.specs.{MayWait}
+use Rattle.script_model.specs.{is_record, ScriptLine, Attach, Fill, Show, Send, WaitAll, WaitFor}
+use Rattle.host_play.specs.{MayPlay, attach_count, call_count, is_attach_line, is_call, record_count, HasPlayed, are_calls, asks_of, HasRoomForLines}
 use Rattle.host_play.proofs.SoFar.{as_many}
 
 -- ---- what was asked for, by kind
 
-abbrev sends : Ask → Bool
+abbrev sends : LineAsk → Bool
 sends (send bytes) = true
 sends _ = false
 
-abbrev attaches : Ask → Bool
+abbrev attaches : LineAsk → Bool
 attaches (attach pages) = true
 attaches _ = false
 
@@ -46,7 +36,7 @@ records-asked (Send bytes ∷ lines) = ap suc (records-asked lines)
 records-asked (WaitAll ∷ lines) = records-asked lines
 records-asked (WaitFor total ∷ lines) = records-asked lines
 
-attaches-asked : (lines : List ScriptLine) → length (filter attaches (calls_asked (asks_of lines))) ≡ length (filter is_attach lines)
+attaches-asked : (lines : List ScriptLine) → length (filter attaches (calls_asked (asks_of lines))) ≡ length (filter is_attach_line lines)
 attaches-asked [] = refl
 attaches-asked (Attach pages ∷ lines) = ap suc (attaches-asked lines)
 attaches-asked (Fill id block n byte ∷ lines) = attaches-asked lines
@@ -101,7 +91,7 @@ received_count (Aborted ∷ log) = received_count log
 
 -- ---- as many as were asked for
 
-sent_count : (asks : List Ask) (log : List Event) → are_calls asks log ≡ true → length (sent log) ≡ length (filter sends asks)
+sent_count : (asks : List LineAsk) (log : List Event) → are_calls asks log ≡ true → length (sent log) ≡ length (filter sends asks)
 sent_count [] [] h = refl
 sent_count (send bytes ∷ asks) (Sent index bytes' ∷ log) h = ap suc (sent_count asks log (and_true (is_call_for (send bytes) (Sent index bytes')) (are_calls asks log) h).1)
 sent_count (attach pages ∷ asks) (Attached pages' id ∷ log) h = sent_count asks log (and_true (is_call_for (attach pages) (Attached pages' id)) (are_calls asks log) h).1
@@ -112,7 +102,7 @@ sent_count [] (e ∷ log) h = cc
 sent_count (a ∷ asks) [] h = cc
 sent_count (a ∷ asks) (e ∷ log) h = cc
 
-given_count : (asks : List Ask) (log : List Event) → are_calls asks log ≡ true → length (given log) ≤ length (filter attaches asks)
+given_count : (asks : List LineAsk) (log : List Event) → are_calls asks log ≡ true → length (given log) ≤ length (filter attaches asks)
 given_count [] [] h = omega arith
 given_count (attach pages ∷ asks) (Attached pages' id ∷ log) h = let t = given_count asks log (and_true (is_call_for (attach pages) (Attached pages' id)) (are_calls asks log) h).1 in omega (arith, t)
 given_count (attach pages ∷ asks) (NotAttached pages' cause ∷ log) h = let t = given_count asks log (and_true (is_call_for (attach pages) (NotAttached pages' cause)) (are_calls asks log) h).1 in omega (arith, t)
@@ -142,7 +132,7 @@ module _ (client : ClientState) (before : List ScriptLine) (is : IsClient client
   given_lines =
       let few = given_count (calls_asked (asks_of before)) (calls_in client.log) p.calls in
       let same : length (given (calls_in client.log)) ≡ length (given client.log) = ap (λ (l : List ℕ). length l) (given_calls client.log) in
-      let asked = attaches-asked before ∙ length-filter is_attach before in
+      let asked = attaches-asked before ∙ length-filter is_attach_line before in
       omega (arith, few, same, asked)
 
   call_lines : length (calls_in client.log) ≡ call_count before
@@ -159,7 +149,7 @@ module _ (client : ClientState) (before : List ScriptLine) (is : IsClient client
       let answers = received_count client.log in
       omega (arith, ends, kinds, answers, call_lines)
 
-pub may_end : (client : ClientState) (lines : List ScriptLine) → IsClient client → HasPlayed lines client.log → HasRoomFor lines client.plan.spec → client.finish ≡ None → MayWait 0 client
+pub may_end : (client : ClientState) (lines : List ScriptLine) → IsClient client → HasPlayed lines client.log → HasRoomForLines lines client.plan.spec → client.finish ≡ None → MayWait 0 client
 may_end client lines is p room still = record {
   open_still = still;
   room =
@@ -179,7 +169,7 @@ given_or_full n a below most = by (leb_tells 65535 n)
     by (inl t) = inr (omega (arith, t.1, most))
     by (inr f) = inl (omega (arith, f.1, below))
 
-pub may_play : (client : ClientState) (all before rest : List ScriptLine) (line : ScriptLine) → all ≡ before ++ line ∷ rest → IsClient client → HasPlayed before client.log → HasRoomFor all client.plan.spec → client.finish ≡ None → MayPlay line client
+pub may_play : (client : ClientState) (all before rest : List ScriptLine) (line : ScriptLine) → all ≡ before ++ line ∷ rest → IsClient client → HasPlayed before client.log → HasRoomForLines all client.plan.spec → client.finish ≡ None → MayPlay line client
 may_play client all before rest line whole is p room still =
     let events = events_few client before is p in
     let sent = sent_lines client before is p in
@@ -187,7 +177,7 @@ may_play client all before rest line whole is p room still =
     let few = received_few client before is p in
     let calls : call_count all ≡ call_count before + (cond (is_call line) 1 0 + call_count rest) = ap call_count whole ∙ count_parts is_call before rest line in
     let records : record_count all ≡ record_count before + (cond (is_record line) 1 0 + record_count rest) = ap record_count whole ∙ count_parts is_record before rest line in
-    let attached : attach_count all ≡ attach_count before + (cond (is_attach line) 1 0 + attach_count rest) = ap attach_count whole ∙ count_parts is_attach before rest line in
+    let attached : attach_count all ≡ attach_count before + (cond (is_attach_line line) 1 0 + attach_count rest) = ap attach_count whole ∙ count_parts is_attach_line before rest line in
     record {
       waits = record {
         open_still = still;
@@ -200,7 +190,7 @@ may_play client all before rest line whole is p room still =
           let one = one_if (is_record line) one_sent in
           omega (arith, sent, room.records, records, one);
       ids = λ one_given.
-          let one = one_if (is_attach line) one_given in
+          let one = one_if (is_attach_line line) one_given in
           let fits = given_or_full (length (given client.log)) (attach_count all) (omega (arith, ids, attached, one)) (omega (arith, is.log.given)) in
           subst (λ n. (length (given client.log) < n) ⊎ (length (given client.log) ≡ 65535)) (sym room.attaches) fits;
     }

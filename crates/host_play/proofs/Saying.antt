@@ -1,24 +1,15 @@
 -- A script that can be said, within its limits, can be played.
-use Rattle.std.proofs.Common.{◌≡◌, ℕ, zero, suc, ◌*◌, ◌≤◌, Bool, true, false, ◌&&◌, ◌||◌, cond, List, [], ◌∷◌, ◌++◌, length, map, All, Some, None, refl, sym, ap, subst, ◌∙◌, arith}
+use Rattle.std.proofs.Common.{◌≡◌, ℕ, zero, suc, ◌*◌, ◌≤◌, Bool, true, false, ◌&&◌, cond, List, [], ◌∷◌, ◌++◌, length, map, All, Some, None, refl, sym, ap, subst, ◌∙◌, arith}
 use Rattle.std.specs.Prelude.{nat_le, nat_lt, slice_get}
 use Rattle.std.specs.List.{list_all, list_any, sum_by}
 use Rattle.std.proofs.lemmas.List.{length-map}
 use Rattle.std.proofs.lemmas.List.Elements.{All-cons, All-nil}
 use Rattle.std.proofs.lemmas.Bool.{ltb-false}
 use Rattle.script_model.proofs.PrintedValues.{and_true, le_from}
-use Rattle.script_model.specs.declared.limit.Limit.TheVariants.{Sessions, Records, Moved}
-use Rattle.script_model.specs.declared.script.ScriptLine.{ScriptLine}
-use Rattle.script_model.specs.declared.script.ScriptLine.TheVariants.{Attach, Fill, Show, Send, WaitAll, WaitFor}
-use Rattle.script_model.specs.declared.script.SessionScript.{SessionScript}
-use Rattle.script_model.specs.Limit.{has_many_records, limit_of, moved_by_lines}
-use Rattle.script_model.specs.Owed.{owed}
-use Rattle.script_model.specs.Planned.{can_be_said, fits_line, fits_lines, fits_plan, is_between}
-use Rattle.script_model.specs.Plans.{SessionPlan, plan_of}
+use Rattle.script_model.specs.{Sessions, Records, Moved, ScriptLine, Attach, Fill, Show, Send, WaitAll, WaitFor, SessionScript, has_many_records, limit_of, moved_by_lines, owed, can_be_said, fits_line, fits_lines, fits_plan, is_between, PlannedSession, plan_of}
 use Rattle.host_worker.proofs.Lists.{each_place, map_at}
-use Rattle.host_play.specs.Calls.{CanPlay}
-use Rattle.host_play.specs.Counts.{record_count}
-use Rattle.host_play.specs.Pieces.{FitsShow}
-use Rattle.host_play.specs.Stages.{IsPlayable}
+use Rattle.host_play.specs.{CanPlay, record_count, FitsShow, AreSessionsPlayable}
+use Rattle.host_log.proofs.Bools.{or_parts}
 
 between : (low high n : ℕ) → is_between low high n ≡ true → (low ≤ n) × (n ≤ high)
 between low high n h = let parts = and_true (nat_le low n) (nat_le n high) h in (le_from low n parts.0, le_from n high parts.1)
@@ -42,45 +33,41 @@ lines_fit before (line ∷ lines) h =
     let rest = lines_fit (before ++ line ∷ []) lines parts.1 in
     (All-cons CanPlay line lines one.0 rest.0, All-cons FitsShow line lines one.1 rest.1)
 
-plan_fits : (plans : List SessionPlan) → can_be_said plans ≡ true → (k : ℕ) (plan : SessionPlan) → slice_get plans k ≡ Some plan → All CanPlay plan.lines × All FitsShow plan.lines
+plan_fits : (plans : List PlannedSession) → can_be_said plans ≡ true → (k : ℕ) (plan : PlannedSession) → slice_get plans k ≡ Some plan → All CanPlay plan.lines × All FitsShow plan.lines
 plan_fits [] h k plan at = absurd (cc at)
 plan_fits (p ∷ plans) h zero plan at =
     let parts = and_true (fits_plan p) (list_all fits_plan plans) h in
     let lines = and_true (is_between 1 1024 p.part) (fits_lines [] p.lines) parts.0 in
     let same : p ≡ plan = cc at in
-    subst (λ (q : SessionPlan). All CanPlay q.lines × All FitsShow q.lines) same (lines_fit [] p.lines lines.1)
+    subst (λ (q : PlannedSession). All CanPlay q.lines × All FitsShow q.lines) same (lines_fit [] p.lines lines.1)
 plan_fits (p ∷ plans) h (suc k) plan at = plan_fits plans (and_true (fits_plan p) (list_all fits_plan plans) h).1 k plan at
 
 -- ---- limits
 
-few_in : (size : ℕ) (plans : List SessionPlan) → limit_of size plans ≡ None → (length plans ≤ 16) × (list_any (λ s. has_many_records s.lines) plans ≡ false)
+few_in : (size : ℕ) (plans : List PlannedSession) → limit_of size plans ≡ None → (length plans ≤ 16) × (list_any (λ s. has_many_records s.lines) plans ≡ false)
 unfolding limit_of
 few_in size plans h = by (nat_lt 16 (length plans)) refl h
   where
     by : (b : Bool) → nat_lt 16 (length plans) ≡ b
-        → cond b (Some Sessions) (cond (list_any (λ (s : SessionPlan). has_many_records s.lines) plans) (Some Records) (cond (nat_lt 134217728 (size * sum_by (λ (s : SessionPlan). moved_by_lines s.lines) plans)) (Some Moved) None)) ≡ None
+        → cond b (Some Sessions) (cond (list_any (λ (s : PlannedSession). has_many_records s.lines) plans) (Some Records) (cond (nat_lt 134217728 (size * sum_by (λ (s : PlannedSession). moved_by_lines s.lines) plans)) (Some Moved) None)) ≡ None
         → (length plans ≤ 16) × (list_any (λ s. has_many_records s.lines) plans ≡ false)
     by true e h = absurd (cc h)
-    by false e h = (ltb-false 16 (length plans) e, on (list_any (λ (s : SessionPlan). has_many_records s.lines) plans) h)
+    by false e h = (ltb-false 16 (length plans) e, on (list_any (λ (s : PlannedSession). has_many_records s.lines) plans) h)
       where
-        on : (c : Bool) → cond c (Some Records) (cond (nat_lt 134217728 (size * sum_by (λ (s : SessionPlan). moved_by_lines s.lines) plans)) (Some Moved) None) ≡ None → c ≡ false
+        on : (c : Bool) → cond c (Some Records) (cond (nat_lt 134217728 (size * sum_by (λ (s : PlannedSession). moved_by_lines s.lines) plans)) (Some Moved) None) ≡ None → c ≡ false
         on true h = absurd (cc h)
         on false h = refl
 
-or_false : (a b : Bool) → (a || b) ≡ false → (a ≡ false) × (b ≡ false)
-or_false true b h = absurd (cc h)
-or_false false b h = (refl, h)
-
-none_any : (p : SessionPlan → Bool) (plans : List SessionPlan) → list_any p plans ≡ false → (k : ℕ) (plan : SessionPlan) → slice_get plans k ≡ Some plan → p plan ≡ false
+none_any : (p : PlannedSession → Bool) (plans : List PlannedSession) → list_any p plans ≡ false → (k : ℕ) (plan : PlannedSession) → slice_get plans k ≡ Some plan → p plan ≡ false
 none_any p [] h k plan at = absurd (cc at)
-none_any p (q ∷ plans) h zero plan at = let same : q ≡ plan = cc at in ap p (sym same) ∙ (or_false (p q) (list_any p plans) h).0
-none_any p (q ∷ plans) h (suc k) plan at = none_any p plans (or_false (p q) (list_any p plans) h).1 k plan at
+none_any p (q ∷ plans) h zero plan at = let same : q ≡ plan = cc at in ap p (sym same) ∙ (or_parts (p q) (list_any p plans) h).0
+none_any p (q ∷ plans) h (suc k) plan at = none_any p plans (or_parts (p q) (list_any p plans) h).1 k plan at
 
 few_records : (lines : List ScriptLine) → has_many_records lines ≡ false → record_count lines ≤ 65535
 unfolding has_many_records
 few_records lines h = ltb-false 65535 (record_count lines) h
 
-pub is_playable : (size : ℕ) (sessions : List SessionScript) → can_be_said (map plan_of sessions) ≡ true → limit_of size (map plan_of sessions) ≡ None → IsPlayable sessions
+pub is_playable : (size : ℕ) (sessions : List SessionScript) → can_be_said (map plan_of sessions) ≡ true → limit_of size (map plan_of sessions) ≡ None → AreSessionsPlayable sessions
 is_playable size sessions said within =
     let plans = map plan_of sessions in
     let limits = few_in size plans within in

@@ -5,33 +5,26 @@ use Rattle.std.proofs.lemmas.List.{length-map, length-reverse}
 use Rattle.std.proofs.lemmas.List.FromFn.{length-range_with_len}
 use Rattle.std.proofs.lemmas.Option.{slice_get_within}
 use Rattle.host_block.specs.declared.range.Range.{Range}
-use Rattle.host_device.specs.declared.device.Device.{Device}
+use Rattle.host_device.specs.{Device}
 use Rattle.host_device.specs.Seen as device
 use Rattle.host_io.specs.declared.disk.Disk as disk
-use Rattle.host_model.specs.Lists.{below}
-use Rattle.host_session.specs.declared.spec.SessionSpec.{SessionSpec}
-use Rattle.host_worker.specs.declared.session.Session.{Session}
-use Rattle.host_worker.specs.Servers.{session_count}
-use Rattle.host_worker.specs.Starts.{AreSpecs, IsPlanned}
+use Rattle.host_model.specs.{below}
+use Rattle.host_session.specs.{SessionSpec}
+use Rattle.host_worker.specs.{Session, session_count, AreSpecs, IsPlanned}
 use Rattle.host_worker.proofs.Lists.{at_place, each_place}
-use Rattle.script_model.specs.Plans.{SessionPlan}
-use Rattle.script_played.specs.Room.{steps_ahead}
-use Rattle.host_play.specs.declared.actor.Actor.{Actor}
-use Rattle.host_play.specs.declared.played.Setting.{Setting}
-use Rattle.host_play.specs.declared.stage.Props.{Props}
-use Rattle.host_play.specs.declared.stage.Stage.{Stage}
-use Rattle.host_play.specs.Casts.{numbers_of}
-use Rattle.host_play.specs.Opened.{spec_for, specs_from}
-use Rattle.host_play.specs.Stages.{AreProps, IsSet, IsStaged}
-use Rattle.host_play.proofs.Reporting.{spec_at, specs_length, stands}
+use Rattle.script_model.specs.{PlannedSession}
+use Rattle.script_played.specs.{steps_ahead}
+use Rattle.host_play.specs.{Actor, Setting, Props, Stage, numbers_of, spec_for, specs_from, AreProps, IsSet, IsStaged}
+use Rattle.host_play.proofs.Reporting.{spec_at, specs_length}
+use Rattle.host_log.proofs.Places.{some_at}
 
 -- ---- the specs of sessions on ranges of so many blocks
 
-module _ (plans : List SessionPlan) (ranges : List Range) (size depth blocks : ℕ) (same : length ranges ≡ length plans) where
+module _ (plans : List PlannedSession) (ranges : List Range) (size depth blocks : ℕ) (same : length ranges ≡ length plans) where
   -- the spec at a place is that of a range
-  placed : (k : ℕ) (spec : SessionSpec) → slice_get (specs_from 1 plans ranges size depth) k ≡ Some spec → (plan : SessionPlan) × (range : Range) × (slice_get ranges k ≡ Some range) × (spec ≡ spec_for (1 + k) plan range size depth)
+  placed : (k : ℕ) (spec : SessionSpec) → slice_get (specs_from 1 plans ranges size depth) k ≡ Some spec → (plan : PlannedSession) × (range : Range) × (slice_get ranges k ≡ Some range) × (spec ≡ spec_for (1 + k) plan range size depth)
   placed k spec at =
-      let plan = stands plans k (omega (arith, slice_get_within (specs_from 1 plans ranges size depth) k spec at, specs_length 1 plans ranges size depth same)) in
+      let plan = some_at plans k (omega (arith, slice_get_within (specs_from 1 plans ranges size depth) k spec at, specs_length 1 plans ranges size depth same)) in
       let found = spec_at 1 plans ranges size depth k plan.0 spec plan.1 at in
       (plan.0, found.0, found.1, found.2)
 
@@ -61,7 +54,7 @@ module _ {D : Type 0} {g : disk.Ghosts D} where
       sym (length-reverse (map (λ (actor : Actor D g). actor.hand.number) actors) ∙ length-map actors (λ (actor : Actor D g). actor.hand.number))
       ∙ ap (λ (l : List ℕ). length l) numbers ∙ length-range_with_len 0 n
 
-  pub is_set : (opened : D) (plans : List SessionPlan) (ranges : List Range) (size : ℕ) (setting : Setting) (made : Device D g) (props : Props D g) (hands : ℕ) (stage : Stage D g)
+  pub is_set : (opened : D) (plans : List PlannedSession) (ranges : List Range) (size : ℕ) (setting : Setting) (made : Device D g) (props : Props D g) (hands : ℕ) (stage : Stage D g)
       → IsStaged made props hands stage → device.opening_of made ≡ opened → (device.shape_of made).size ≡ size → (device.steps_of made).kept ≡ true → (device.steps_of made).room ≡ steps_ahead plans → hands ≡ setting.workers + length plans → length ranges ≡ length plans → AreProps plans (specs_from 1 plans ranges size setting.depth) size hands props
       → IsSet opened plans ranges size setting stage
   is_set opened plans ranges size setting made props hands stage st opening size_is keeps room hands_are same pr =
@@ -86,6 +79,6 @@ module _ {D : Type 0} {g : disk.Ghosts D} where
       }
 
   -- as many sessions as plans
-  pub sessions_set : (opened : D) (plans : List SessionPlan) (ranges : List Range) (size : ℕ) (setting : Setting) (stage : Stage D g) → length ranges ≡ length plans → IsSet opened plans ranges size setting stage → session_count stage.server ≡ length plans
+  pub sessions_set : (opened : D) (plans : List PlannedSession) (ranges : List Range) (size : ℕ) (setting : Setting) (stage : Stage D g) → length ranges ≡ length plans → IsSet opened plans ranges size setting stage → session_count stage.server ≡ length plans
   sessions_set opened plans ranges size setting stage same set =
       sym (length-map stage.server.sessions.items (λ (s : Session). s.spec)) ∙ ap (λ (l : List SessionSpec). length l) set.specs_are ∙ specs_length 1 plans ranges size setting.depth same

@@ -2,8 +2,8 @@
 use Rattle.std.proofs.Common.{◌≡◌, ℕ, List, [], ◌∷◌, ◌++◌, length, map, reverse, Option, Some, None, refl, sym, ap, ◌∙◌, arith, length-append}
 use Rattle.std.specs.List.{cons_option}
 use Rattle.std.proofs.lemmas.List.{map-append}
-use Rattle.script_model.specs.declared.script.ScriptLine.{ScriptLine}
-use Rattle.host_play.specs.Pieces.{ArePieces, IsNextPiece, WasTaken, piece_length, piece_lengths}
+use Rattle.script_model.specs.{ScriptLine}
+use Rattle.host_play.specs.{ArePieces, IsNextPiece, WasTaken, piece_length, piece_lengths}
 use Rattle.host_play.proofs.Reversed.{ends_with, reverse_cons}
 
 -- the last piece is the next line's

@@ -3,31 +3,25 @@ use Rattle.std.proofs.Common.{◌≡◌, ℕ, ◌+◌, ◌≤◌, true, false, n
 use Rattle.std.specs.Prelude.{◌==◌, nat_le}
 use Rattle.std.proofs.lemmas.List.{map-append}
 use Rattle.script_model.proofs.PrintedValues.{le_true}
-use Rattle.host_record.specs.declared.finish.Finish.{Finish}
-use Rattle.host_record.specs.declared.finish.Finish.TheVariants.{Drain, Abort}
+use Rattle.host_record.specs.{Finish, Drain, Abort, request_of}
 use Rattle.host_record.specs.declared.request.Request.{Request}
-use Rattle.host_record.specs.Request.{request_of}
-use Rattle.host_model.specs.declared.event.Event.{Event}
-use Rattle.host_model.specs.declared.event.Event.TheVariants.{Attached, NotAttached, Filled, Sent, Received, Shown, Drained, Aborted}
-use Rattle.host_model.specs.Groups.{is_owing, owed}
-use Rattle.host_model.specs.Lists.{all_with_before}
-use Rattle.host_model.specs.Log.{received, received_bytes, requests}
-use Rattle.host_report.specs.Played.{Ask, are_calls_for, attach, before_call, calls_asked, calls_in, fill, is_call_for, is_end_of, is_received, is_wait, is_waited_for, send, show, wait_all, wait_for}
-use Rattle.host_session.specs.Endings.{owed_count}
+use Rattle.host_model.specs.{Event, Attached, NotAttached, Filled, Sent, Received, Shown, Drained, Aborted, is_owing, owed, all_with_before, received, received_bytes, requests}
+use Rattle.host_report.specs.{LineAsk, are_calls_for, attach, before_call, calls_asked, calls_in, fill, is_call_for, is_end_of, is_received, is_wait, is_waited_for, send, show, wait_all, wait_for}
+use Rattle.host_session.specs.{owed_count}
 use Rattle.host_session.proofs.Requests.{owed_more, requests_quiet, requests_sent}
-use Rattle.host_session.proofs.Snoc.{filter_none, filter_one, found_none}
-use Rattle.host_worker.specs.Waits.{received_events}
-use Rattle.script_model.specs.declared.script.ScriptLine.{ScriptLine}
-use Rattle.script_model.specs.declared.script.ScriptLine.TheVariants.{WaitAll, WaitFor}
-use Rattle.script_played.specs.Played.{ask_of}
-use Rattle.host_play.specs.Logs.{HasPlayed, HasPlayedOut, are_calls, asks_of}
+use Rattle.host_session.proofs.Snoc.{found_none}
+use Rattle.host_memory.proofs.Pushed.{filter_add, filter_skip}
+use Rattle.host_worker.specs.{received_events}
+use Rattle.script_model.specs.{ScriptLine, WaitAll, WaitFor}
+use Rattle.script_played.specs.{ask_of}
+use Rattle.host_play.specs.{HasPlayed, HasPlayedOut, are_calls, asks_of}
 use Rattle.host_play.proofs.CallLists.{before_all, calls_end, calls_length, calls_snoc}
 use Rattle.host_play.proofs.Waits.{calls_more, waits_more, waits_snoc, waits_stop}
 
 -- ---- what a call isn't
 
 -- the event of a call is no answer
-pub no_answer : (a : Ask) (e : Event) → is_call_for a e ≡ true → is_received e ≡ false
+pub no_answer : (a : LineAsk) (e : Event) → is_call_for a e ≡ true → is_received e ≡ false
 no_answer (attach pages) (Received bytes) h = cc
 no_answer (fill id block count byte) (Received bytes) h = cc
 no_answer (show id block count) (Received bytes) h = cc
@@ -101,18 +95,18 @@ module _ (lines : List ScriptLine) (line : ScriptLine) (log : List Event) (p : H
   calls_on e call made =
       let quiet : is_received e ≡ false = no_answer (ask_of line) e made in
       let asked : calls_asked (asks_of (lines ++ line ∷ [])) ≡ calls_asked (asks_of lines) ++ ask_of line ∷ [] =
-      ap calls_asked (asks_snoc lines line) ∙ filter_one (λ a. not (is_wait a)) (asks_of lines) (ask_of line) (ap not call) in
-      let logged : calls_in (log ++ e ∷ []) ≡ calls_in log ++ e ∷ [] = filter_one (λ x. not (is_received x)) log e (ap not quiet) in
+      ap calls_asked (asks_snoc lines line) ∙ filter_add (λ a. not (is_wait a)) (asks_of lines) (ask_of line) (ap not call) in
+      let logged : calls_in (log ++ e ∷ []) ≡ calls_in log ++ e ∷ [] = filter_add (λ x. not (is_received x)) log e (ap not quiet) in
       let got : received (log ++ e ∷ []) ≡ received log = found_none received_bytes log e (nothing_received e quiet) in
       record {
-        calls = ap (λ (l : List Ask). are_calls l (calls_in (log ++ e ∷ []))) asked ∙ ap (λ es. are_calls (calls_asked (asks_of lines) ++ ask_of line ∷ []) es) logged
+        calls = ap (λ (l : List LineAsk). are_calls l (calls_in (log ++ e ∷ []))) asked ∙ ap (λ es. are_calls (calls_asked (asks_of lines) ++ ask_of line ∷ []) es) logged
             ∙ calls_snoc (calls_asked (asks_of lines)) (calls_in log) (ask_of line) e p.calls made;
-        waits = ap (λ (l : List Ask). all_with_before (is_waited_for (log ++ e ∷ [])) l) (asks_snoc lines line)
+        waits = ap (λ (l : List LineAsk). all_with_before (is_waited_for (log ++ e ∷ [])) l) (asks_snoc lines line)
             ∙ waits_snoc (log ++ e ∷ []) (asks_of lines) (ask_of line) (waits_stop log e (asks_of lines) quiet (as_many lines log p) p.waits) (no_wait (ask_of line) call);
         few = let same = ap (λ (l : List (List ℕ)). length l) got in omega (arith, same, p.few, owes_no_less log e);
       }
     where
-      no_wait : (a : Ask) → is_wait a ≡ false → is_waited_for (log ++ e ∷ []) (asks_of lines) a ≡ true
+      no_wait : (a : LineAsk) → is_wait a ≡ false → is_waited_for (log ++ e ∷ []) (asks_of lines) a ≡ true
       no_wait (attach pages) h = refl
       no_wait (fill id block count byte) h = refl
       no_wait (show id block count) h = refl
@@ -124,10 +118,10 @@ module _ (lines : List ScriptLine) (line : ScriptLine) (log : List Event) (p : H
   pub waits_on : is_wait (ask_of line) ≡ true → is_waited_for log (asks_of lines) (ask_of line) ≡ true → HasPlayed (lines ++ line ∷ []) log
   waits_on wait over =
       let asked : calls_asked (asks_of (lines ++ line ∷ [])) ≡ calls_asked (asks_of lines) =
-      ap calls_asked (asks_snoc lines line) ∙ filter_none (λ a. not (is_wait a)) (asks_of lines) (ask_of line) (ap not wait) in
+      ap calls_asked (asks_snoc lines line) ∙ filter_skip (λ a. not (is_wait a)) (asks_of lines) (ask_of line) (ap not wait) in
       record {
-        calls = ap (λ (l : List Ask). are_calls l (calls_in log)) asked ∙ p.calls;
-        waits = ap (λ (l : List Ask). all_with_before (is_waited_for log) l) (asks_snoc lines line) ∙ waits_snoc log (asks_of lines) (ask_of line) p.waits over;
+        calls = ap (λ (l : List LineAsk). are_calls l (calls_in log)) asked ∙ p.calls;
+        waits = ap (λ (l : List LineAsk). all_with_before (is_waited_for log) l) (asks_snoc lines line) ∙ waits_snoc log (asks_of lines) (ask_of line) p.waits over;
         few = p.few;
       }
 
@@ -150,7 +144,7 @@ waited_for lines total log p enough =
 pub ends_on : (finish : Finish) (lines : List ScriptLine) (log : List Event) (e : Event) → HasPlayed lines log → is_end_of finish e ≡ true → HasPlayedOut finish lines (log ++ e ∷ [])
 ends_on finish lines log e p end =
     let quiet : is_received e ≡ false = no_end_answer finish e end in
-    let logged : calls_in (log ++ e ∷ []) ≡ calls_in log ++ e ∷ [] = filter_one (λ x. not (is_received x)) log e (ap not quiet) in
+    let logged : calls_in (log ++ e ∷ []) ≡ calls_in log ++ e ∷ [] = filter_add (λ x. not (is_received x)) log e (ap not quiet) in
     record {
       calls = ap (λ es. are_calls_for finish (calls_asked (asks_of lines)) es) logged ∙ calls_end finish (calls_asked (asks_of lines)) (calls_in log) e p.calls end;
       waits = waits_stop log e (asks_of lines) quiet (as_many lines log p) p.waits;

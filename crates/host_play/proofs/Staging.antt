@@ -8,29 +8,16 @@ use Rattle.std.proofs.lemmas.List.Elements.{All-append, All-cons, All-head, All-
 use Rattle.std.proofs.lemmas.Option.{slice_get_within}
 use mathlib.Core.List.{map-map}
 use Rattle.host_block.specs.declared.range.Range.{Range}
-use Rattle.host_device.specs.declared.device.Device.{Device}
+use Rattle.host_device.specs.{Device}
 use Rattle.host_io.specs.declared.disk.Disk as disk
-use Rattle.host_model.specs.Lists.{below}
-use Rattle.host_session.specs.Client.{ClientState}
-use Rattle.host_session.specs.Opened.{IsNewClient}
-use Rattle.host_session.specs.declared.spec.SessionSpec.{SessionSpec}
-use Rattle.host_worker.specs.declared.hand.Hand.{Hand}
-use Rattle.host_worker.specs.declared.session.Session.{Session}
-use Rattle.host_worker.specs.declared.started.Started.{Started}
-use Rattle.host_worker.specs.Hands.{IsHandOf, IsNewHand}
-use Rattle.host_worker.specs.Servers.{IsClientOf, plan_of}
-use Rattle.host_worker.specs.Starts.{IsStarted}
+use Rattle.host_model.specs.{below}
+use Rattle.host_session.specs.{ClientState, IsNewClient, SessionSpec}
+use Rattle.host_worker.specs.{Hand, Session, Started, IsHandOf, IsNewHand, IsClientOf, plan_of_session, IsStarted}
 use Rattle.host_worker.proofs.Lists.{at_place, each_place, map_at, map_from}
-use Rattle.script_model.specs.Plans.{SessionPlan}
-use Rattle.host_play.specs.declared.actor.Actor.{Actor}
-use Rattle.host_play.specs.declared.actor.Client.{Client}
-use Rattle.host_play.specs.declared.stage.Props.{Props}
-use Rattle.host_play.specs.Actors.{IsCast, IsReady}
-use Rattle.host_play.specs.Casts.{AreAllPieces, IsMadeOf, IsOneOf, clients_in, hands_in, numbers_of, of_clients, told_of}
-use Rattle.host_play.specs.Opened.{specs_from}
-use Rattle.host_play.specs.Pieces.{ArePieces}
-use Rattle.host_play.specs.Stages.{IsStaged}
-use Rattle.host_play.proofs.Reporting.{spec_at, specs_length, stands}
+use Rattle.script_model.specs.{PlannedSession}
+use Rattle.host_play.specs.{Actor, Client, Props, IsCast, IsClientReady, AreAllPieces, IsMadeOf, IsOneOf, clients_in, hands_in, numbers_of, of_clients, told_by_client, specs_from, ArePieces, IsStaged}
+use Rattle.host_play.proofs.Reporting.{spec_at, specs_length}
+use Rattle.host_log.proofs.Places.{some_at}
 use Rattle.host_play.proofs.Reversed.{map-filter_map, map-reverse, reverse_cons}
 
 -- ---- lists
@@ -56,14 +43,14 @@ module _ {D : Type 0} {g : disk.Ghosts D} (made : Device D g) (specs : List Sess
       ∙ numbered_from (λ (hand : Hand D g). hand.number) 0 started.hands.items (λ k hand at. let t = (is.hands_are k hand at).0 in omega (arith, t))
       ∙ ap (λ n. range_with_len 0 n) is.all_hands
 
-  pub fixed : of_clients (λ client. client.plan) actors ≡ map plan_of started.server.sessions.items
+  pub fixed : of_clients (λ client. client.plan) actors ≡ map plan_of_session started.server.sessions.items
   fixed =
-      ap reverse (map-filter_map (λ (client : ClientState). client.plan) (λ (actor : Actor D g). told_of (λ client. client) actor.client) (λ (actor : Actor D g). told_of (λ client. client.plan) actor.client) (λ actor. told_both actor.client) actors)
-      ∙ sym (map-reverse (λ (client : ClientState). client.plan) (filter_map (λ (actor : Actor D g). told_of (λ client. client) actor.client) actors))
+      ap reverse (map-filter_map (λ (client : ClientState). client.plan) (λ (actor : Actor D g). told_by_client (λ client. client) actor.client) (λ (actor : Actor D g). told_by_client (λ client. client.plan) actor.client) (λ actor. told_both actor.client) actors)
+      ∙ sym (map-reverse (λ (client : ClientState). client.plan) (filter_map (λ (actor : Actor D g). told_by_client (λ client. client) actor.client) actors))
       ∙ ap (map (λ (client : ClientState). client.plan)) (clients_are ∙ sym is.clients_are)
       ∙ map-map (λ (client : ClientState). client.plan) (λ (s : Session). s.opened.value) started.server.sessions.items
     where
-      told_both : (o : Option Client) → cons_option (told_of (λ client. client.plan) o) [] ≡ map (λ (client : ClientState). client.plan) (cons_option (told_of (λ client. client) o) [])
+      told_both : (o : Option Client) → cons_option (told_by_client (λ client. client.plan) o) [] ≡ map (λ (client : ClientState). client.plan) (cons_option (told_by_client (λ client. client) o) [])
       told_both None = refl
       told_both (Some c) = refl
 
@@ -77,13 +64,13 @@ module _ {D : Type 0} {g : disk.Ghosts D} (made : Device D g) (specs : List Sess
       let same : client.plan.spec ≡ o.0.spec = ap (λ (c : ClientState). c.plan.spec) o.2 ∙ (is.server.sessions k o.0 o.1).spec in
       ap (λ l. slice_get l k) (sym is.specs_are) ∙ map_at (λ (s : Session). s.spec) started.server.sessions.items k o.0 o.1 ∙ ap Some (sym same)
 
-  module _ (plans : List SessionPlan) (ranges : List Range) (size depth : ℕ) (pieces : List (Vec (List ℕ) Global)) (same_length : length ranges ≡ length plans) (specs_are : specs ≡ specs_from 1 plans ranges size depth) (all_pieces : AreAllPieces size plans pieces) where
-    ready : (client : Client) → IsOneOf started.clients.items pieces client → IsReady plans client
+  module _ (plans : List PlannedSession) (ranges : List Range) (size depth : ℕ) (pieces : List (Vec (List ℕ) Global)) (same_length : length ranges ≡ length plans) (specs_are : specs ≡ specs_from 1 plans ranges size depth) (all_pieces : AreAllPieces size plans pieces) where
+    ready : (client : Client) → IsOneOf started.clients.items pieces client → IsClientReady plans client
     ready client one =
         let k = one.place in
         let spec_there : slice_get (specs_from 1 plans ranges size depth) k ≡ Some client.end.plan.spec = ap (λ l. slice_get l k) (sym specs_are) ∙ spec_is k client.end one.end_is in
         let within : k < length plans = omega (arith, slice_get_within (specs_from 1 plans ranges size depth) k client.end.plan.spec spec_there, specs_length 1 plans ranges size depth same_length) in
-        let plan = stands plans k within in
+        let plan = some_at plans k within in
         let spec = spec_at 1 plans ranges size depth k plan.0 client.end.plan.spec plan.1 spec_there in
         let number : client.end.plan.spec.number - 1 ≡ k = let t = ap (λ (sp : SessionSpec). sp.number) spec.2 in omega (arith, t) in
         record {
@@ -110,7 +97,7 @@ module _ {D : Type 0} {g : disk.Ghosts D} (made : Device D g) (specs : List Sess
         own None h = tt
         own (Some c) h = at_place (IsClientOf started.server) started.clients.items h.place c.end is.clients.0 h.end_is
 
-        begins : (o : Option Client) → IfSome o (IsOneOf started.clients.items pieces) → IfSome o (IsReady plans)
+        begins : (o : Option Client) → IfSome o (IsOneOf started.clients.items pieces) → IfSome o (IsClientReady plans)
         begins None h = tt
         begins (Some c) h = ready c h
 

@@ -5,20 +5,17 @@ use Rattle.std.proofs.lemmas.List.Elements.{filter-append, filter_map-append}
 use Rattle.std.proofs.lemmas.Bool.Decides.{Decides-eqb, leb_tells}
 use Rattle.script_model.proofs.PrintedValues.{and_true, le_from, le_true}
 use Rattle.script_model.proofs.Said.{and_both}
-use Rattle.host_model.specs.declared.event.Event.{Event}
-use Rattle.host_model.specs.Groups.{owed}
-use Rattle.host_model.specs.Lists.{all_after, all_with_before}
-use Rattle.host_model.specs.Log.{received, received_bytes, requests, sent, sent_bytes}
-use Rattle.host_record.specs.Request.{request_of}
-use Rattle.host_report.specs.Played.{Ask, attach, before_call, calls_asked, calls_in, fill, is_received, is_waited_for, send, show, wait_all, wait_for}
-use Rattle.host_session.specs.Endings.{owed_count}
-use Rattle.host_worker.specs.Waits.{received_events}
+use Rattle.host_model.specs.{Event, owed, all_after, all_with_before, received, received_bytes, requests, sent, sent_bytes}
+use Rattle.host_record.specs.{request_of}
+use Rattle.host_report.specs.{LineAsk, attach, before_call, calls_asked, calls_in, fill, is_received, is_waited_for, send, show, wait_all, wait_for}
+use Rattle.host_session.specs.{owed_count}
+use Rattle.host_worker.specs.{received_events}
 use Rattle.host_play.proofs.CallLists.{asked_within, before_all, before_less, before_stop}
 
 -- ---- tests that go over
 
 -- where one test holds of each element with those before it, and the other then holds too
-pub all_after-go : (p q : List Ask → Ask → Bool) (before xs : List Ask) → ((front : List Ask) (a : Ask) (back : List Ask) → before ++ xs ≡ front ++ a ∷ back → p front a ≡ true → q front a ≡ true) → all_after p before xs ≡ true → all_after q before xs ≡ true
+pub all_after-go : (p q : List LineAsk → LineAsk → Bool) (before xs : List LineAsk) → ((front : List LineAsk) (a : LineAsk) (back : List LineAsk) → before ++ xs ≡ front ++ a ∷ back → p front a ≡ true → q front a ≡ true) → all_after p before xs ≡ true → all_after q before xs ≡ true
 all_after-go p q before [] go h = refl
 all_after-go p q before (x ∷ xs) go h =
     let parts = and_true (p before x) (all_after p (before ++ x ∷ []) xs) h in
@@ -26,18 +23,18 @@ all_after-go p q before (x ∷ xs) go h =
     (all_after-go p q (before ++ x ∷ []) xs (λ front a back e. go front a back (sym (append_assoc before (x ∷ []) xs) ∙ e)) parts.1)
 
 -- one element more
-all_after-snoc : (p : List Ask → Ask → Bool) (before xs : List Ask) (a : Ask) → all_after p before xs ≡ true → p (before ++ xs) a ≡ true → all_after p before (xs ++ a ∷ []) ≡ true
+all_after-snoc : (p : List LineAsk → LineAsk → Bool) (before xs : List LineAsk) (a : LineAsk) → all_after p before xs ≡ true → p (before ++ xs) a ≡ true → all_after p before (xs ++ a ∷ []) ≡ true
 all_after-snoc p before [] a h c = and_both (p before a) true (ap (λ l. p l a) (sym (append-nil before)) ∙ c) refl
 all_after-snoc p before (x ∷ xs) a h c =
     let parts = and_true (p before x) (all_after p (before ++ x ∷ []) xs) h in
     and_both (p before x) _ parts.0 (all_after-snoc p (before ++ x ∷ []) xs a parts.1 (ap (λ l. p l a) (append_assoc before (x ∷ []) xs) ∙ c))
 
-pub waits_snoc : (log : List Event) (asks : List Ask) (a : Ask) → all_with_before (is_waited_for log) asks ≡ true → is_waited_for log asks a ≡ true → all_with_before (is_waited_for log) (asks ++ a ∷ []) ≡ true
+pub waits_snoc : (log : List Event) (asks : List LineAsk) (a : LineAsk) → all_with_before (is_waited_for log) asks ≡ true → is_waited_for log asks a ≡ true → all_with_before (is_waited_for log) (asks ++ a ∷ []) ≡ true
 waits_snoc log asks a h c = all_after-snoc (is_waited_for log) [] asks a h c
 
 -- ---- one event more, which isn't an answer
 
-wait_stop : (log : List Event) (e : Event) (front : List Ask) (a : Ask) → is_received e ≡ false → length (calls_asked front) ≤ length (calls_in log) → is_waited_for log front a ≡ true → is_waited_for (log ++ e ∷ []) front a ≡ true
+wait_stop : (log : List Event) (e : Event) (front : List LineAsk) (a : LineAsk) → is_received e ≡ false → length (calls_asked front) ≤ length (calls_in log) → is_waited_for log front a ≡ true → is_waited_for (log ++ e ∷ []) front a ≡ true
 wait_stop log e front wait_all c h w = subst (λ (past : List Event). (length (received past) == length (owed (requests past))) ≡ true) (sym (before_stop (length (calls_asked front)) log e c h)) w
 wait_stop log e front (wait_for total) c h w = subst (λ (past : List Event). nat_le total (length (received past)) ≡ true) (sym (before_stop (length (calls_asked front)) log e c h)) w
 wait_stop log e front (attach pages) c h w = refl
@@ -45,7 +42,7 @@ wait_stop log e front (fill id block count byte) c h w = refl
 wait_stop log e front (show id block count) c h w = refl
 wait_stop log e front (send bytes) c h w = refl
 
-pub waits_stop : (log : List Event) (e : Event) (asks : List Ask) → is_received e ≡ false → length (calls_asked asks) ≡ length (calls_in log) → all_with_before (is_waited_for log) asks ≡ true → all_with_before (is_waited_for (log ++ e ∷ [])) asks ≡ true
+pub waits_stop : (log : List Event) (e : Event) (asks : List LineAsk) → is_received e ≡ false → length (calls_asked asks) ≡ length (calls_in log) → all_with_before (is_waited_for log) asks ≡ true → all_with_before (is_waited_for (log ++ e ∷ [])) asks ≡ true
 waits_stop log e asks c n w = all_after-go (is_waited_for log) (is_waited_for (log ++ e ∷ [])) [] asks
     (λ front a back is. wait_stop log e front a c (let le = asked_within front (a ∷ back) asks is in omega (arith, le, n))) w
 
@@ -87,7 +84,7 @@ module _ (log : List Event) (answers : List (List ℕ)) (few : length (received 
       let grown : length (received (log ++ received_events answers)) ≡ length (received log ++ answers) = ap (λ (l : List (List ℕ)). length l) (received_more log answers) in
       le_true total (length (received (log ++ received_events answers))) (omega (arith, le_from total (length (received log)) w, grown, length-append (received log) answers))
 
-  wait_more : (front : List Ask) (a : Ask) → (length (calls_asked front) < length (calls_in log)) ⊎ (length (calls_in log) ≤ length (calls_asked front)) → is_waited_for log front a ≡ true → is_waited_for (log ++ received_events answers) front a ≡ true
+  wait_more : (front : List LineAsk) (a : LineAsk) → (length (calls_asked front) < length (calls_in log)) ⊎ (length (calls_in log) ≤ length (calls_asked front)) → is_waited_for log front a ≡ true → is_waited_for (log ++ received_events answers) front a ≡ true
   wait_more front wait_all (inl less) w = subst (λ (past : List Event). (length (received past) == length (owed (requests past))) ≡ true) (sym (before_less (length (calls_asked front)) log (received_events answers) less)) w
   wait_more front (wait_for total) (inl less) w = subst (λ (past : List Event). nat_le total (length (received past)) ≡ true) (sym (before_less (length (calls_asked front)) log (received_events answers) less)) w
   wait_more front wait_all (inr rest) w =
@@ -112,6 +109,6 @@ less_or_not a b = by (leb_tells b a)
     by (inl t) = inr t.1
     by (inr f) = inl f.1
 
-pub waits_more : (log : List Event) (answers : List (List ℕ)) (asks : List Ask) → length (received (log ++ received_events answers)) ≤ owed_count (log ++ received_events answers) → all_with_before (is_waited_for log) asks ≡ true → all_with_before (is_waited_for (log ++ received_events answers)) asks ≡ true
+pub waits_more : (log : List Event) (answers : List (List ℕ)) (asks : List LineAsk) → length (received (log ++ received_events answers)) ≤ owed_count (log ++ received_events answers) → all_with_before (is_waited_for log) asks ≡ true → all_with_before (is_waited_for (log ++ received_events answers)) asks ≡ true
 waits_more log answers asks few w = all_after-go (is_waited_for log) (is_waited_for (log ++ received_events answers)) [] asks
     (λ front a back is. wait_more log answers few front a (less_or_not (length (calls_asked front)) (length (calls_in log)))) w

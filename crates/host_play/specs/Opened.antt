@@ -3,14 +3,14 @@ use Rattle.std.specs.Prelude.{◌≡◌, ℕ, ◌+◌, min, true, List, [], ◌�
 use Rattle.host_block.specs.declared.range.Range.{Range}
 use Rattle.host_session.specs.declared.spec.SessionSpec.{SessionSpec}
 use Rattle.script_model.specs.declared.script.ScriptLine.{ScriptLine}
-use Rattle.script_model.specs.Plans.{SessionPlan}
+use Rattle.script_model.specs.Plans.{PlannedSession}
 use Rattle.script_played.specs.Room.{moves_in}
 use Rattle.host_play.specs.Counts.{attach_count, call_count, record_count}
 
--- There is room for all that the lines can make: a record for each that sends one, a buffer for each that attaches one, an
--- event for each call and for each answer, and a lift or landing for each block that a record reads or writes. Histories are
--- kept.
-abbrev pub spec_for : ℕ → SessionPlan → Range → ℕ → ℕ → SessionSpec
+-- There is room for all that the lines can make: a record for each that sends one, a buffer for
+-- each that attaches one, an event for each call and for each answer, and a lift or landing for
+-- each block that a record reads or writes. Histories are kept.
+abbrev pub spec_for : ℕ → PlannedSession → Range → ℕ → ℕ → SessionSpec
 spec_for number plan part size depth = record {
   number = number;
   part_number = plan.part;
@@ -25,12 +25,13 @@ spec_for number plan part size depth = record {
 }
 
 -- the specs of these sessions on these ranges, numbered from n
-abbrev pub specs_from : ℕ → List SessionPlan → List Range → ℕ → ℕ → List SessionSpec
-specs_from n (plan ∷ plans) (range ∷ ranges) size depth = spec_for n plan range size depth ∷ specs_from (n + 1) plans ranges size depth
+abbrev pub specs_from : ℕ → List PlannedSession → List Range → ℕ → ℕ → List SessionSpec
+specs_from n (plan ∷ plans) (range ∷ ranges) size depth =
+    spec_for n plan range size depth ∷ specs_from (n + 1) plans ranges size depth
 specs_from n _ _ size depth = []
 
 -- a spec with such room for these lines
-pub record HasRoomFor (lines : List ScriptLine) (spec : SessionSpec) : Type 0 where
+pub record HasRoomForLines (lines : List ScriptLine) (spec : SessionSpec) : Type 0 where
   pub records : spec.records ≡ record_count lines
   pub attaches : spec.attaches ≡ min (attach_count lines) 65535
   pub events : spec.events ≡ call_count lines + record_count lines

@@ -1,5 +1,6 @@
 -- The pieces of bytes that shows are put into.
-use Rattle.std.specs.Prelude.{◌≡◌, ℕ, ◌*◌, ◌≤◌, List, [], ◌∷◌, ◌++◌, map, length, filter_map, reverse, Option, Some, None}
+use Rattle.std.specs.Prelude.{◌≡◌, ℕ, ◌*◌, ◌≤◌, List, [], ◌∷◌, ◌++◌, map, length, filter_map}
+use Rattle.std.specs.Prelude.{reverse, Option, Some, None}
 use Rattle.script_model.specs.declared.script.ScriptLine.{ScriptLine}
 use Rattle.script_model.specs.declared.script.ScriptLine.TheVariants.{Show}
 
@@ -18,14 +19,16 @@ piece_lengths size lines = filter_map (piece_length size) lines
 
 -- a piece for each line that shows, the last line's first
 abbrev pub ArePieces : ℕ → List ScriptLine → List (List ℕ) → Type 0
-ArePieces size lines pieces = map (λ (piece : List ℕ). length piece) pieces ≡ reverse (piece_lengths size lines)
+ArePieces size lines pieces =
+    map (λ (piece : List ℕ). length piece) pieces ≡ reverse (piece_lengths size lines)
 
 -- ---- one of them
 
 -- the next one has this length, if one is asked for
 abbrev pub IsNextPiece : Option ℕ → List (List ℕ) → Type 0
 IsNextPiece None pieces = Unit {0}
-IsNextPiece (Some n) pieces = (rest : List (List ℕ)) × (piece : List ℕ) × (pieces ≡ rest ++ piece ∷ []) × (length piece ≡ n)
+IsNextPiece (Some n) pieces =
+    (rest : List (List ℕ)) × (piece : List ℕ) × (pieces ≡ rest ++ piece ∷ []) × (length piece ≡ n)
 
 -- it was taken
 abbrev pub WasTaken : Option ℕ → List (List ℕ) → List (List ℕ) → Type 0

@@ -1,9 +1,10 @@
-//! Each does its part: a client plays its session, and a worker goes round the server until all sessions are closed.
+//! Each does its part: a client plays its session, and a worker goes round the server until all
+//! sessions are closed.
 ghost use Rattle.std.specs.Prelude.{◌<◌, All, length};
 ghost use Rattle.host_worker.specs.Hands.{IsHandOf};
 ghost use Rattle.host_worker.specs.Servers.{IsClientOf, IsServer};
 ghost use Rattle.script_model.specs.Plans.{plans_of};
-ghost use Rattle.host_play.specs.Actors.{HasPlayedPart, HasPlayedSession, IsCast, IsReady};
+ghost use Rattle.host_play.specs.Actors.{HasPlayedPart, HasPlayedSession, IsCast, IsClientReady};
 ghost use Rattle.host_play.specs.Calls.{CanPlay, HasHelped, HasWorkedAlone};
 ghost use Rattle.host_play.specs.Casts.{AllHavePlayed};
 
@@ -18,8 +19,9 @@ use std::sync::Wait;
 use std::thread;
 use std::thread::Threads;
 
-/// All do their parts, each in a thread of its own. Where no thread can be made they run one after the other from the last
-/// on, so the clients have to stand last there: they end by themselves, and the workers wait for them.
+/// All do their parts, each in a thread of its own. Where no thread can be made they run one after
+/// the other from the last on, so the clients have to stand last there: they end by themselves, and
+/// the workers wait for them.
 pub fn act_all<R: Threads + Wait + Sync, D: Disk + Send, G: Gate + Sync>(
     rt: &R,
     alloc: Global,
@@ -57,8 +59,11 @@ fn act_each<R: Threads + Wait + Sync, D: Disk + Send, G: Gate + Sync>(
 {
     let threads = actors.len();
     let one = move |_: usize, actor: &mut Actor<D>|
-        requires { IsServer server.now × All (λ session. All CanPlay session.lines.items) script.now.sessions.items × IsCast server.now (plans_of script.now) actor.now }
-        ensures { HasPlayedPart server.entry.now (plans_of script.entry.now) actor.entry.now actor.exit.now }
+        requires { IsServer server.now
+            × All (λ session. All CanPlay session.lines.items) script.now.sessions.items
+            × IsCast server.now (plans_of script.now) actor.now }
+        ensures { HasPlayedPart server.entry.now (plans_of script.entry.now) actor.entry.now
+            actor.exit.now }
     { act(rt, alloc, server, actor, script, gate) };
     thread::for_each_mut(rt, actors, threads, &one);
 }
@@ -98,7 +103,7 @@ fn play<R: Wait, D: Disk, G: Gate>(
     requires client { IsClientOf server.now client.old.end }
     requires hand { IsHandOf server.now hand.old }
     requires playable { All (λ session. All CanPlay session.lines.items) script.now.sessions.items }
-    requires ready { IsReady (plans_of script.now) client.old }
+    requires ready { IsClientReady (plans_of script.now) client.old }
     ensures played { HasPlayedSession (plans_of script.now) client.old.end client.new.end }
     ensures helped { HasHelped server.now hand.old hand.new client.old.end client.new.end }
 {

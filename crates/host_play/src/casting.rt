@@ -1,6 +1,7 @@
 //! Hands and clients become those that take part, and come back from there.
 ghost use Rattle.std.specs.Prelude.{◌≡◌, ◌≤◌, ◌+◌, [], ◌++◌, All, length, vec_capacity, vec_len};
-ghost use Rattle.host_play.specs.Casts.{HasTakenClient, IsMadeOf, clients_in, end_in, hands_in};
+ghost use Rattle.host_play.specs.Casts.{HasTakenClient, IsMadeOf, clients_in, ends_of_client};
+ghost use Rattle.host_play.specs.Casts.{hands_in};
 
 use crate::actor::{Actor, Client};
 use host_block::Bytes;
@@ -8,7 +9,8 @@ use host_io::Disk;
 use host_session::ClientEnd;
 use host_worker::Hand;
 
-/// Those that take part: the clients first, each with a hand and with the pieces for its shows, and then the other hands.
+/// Those that take part: the clients first, each with a hand and with the pieces for its shows, and
+/// then the other hands.
 pub fn cast_all<D: Disk>(
     mut clients: Vec<ClientEnd>,
     mut hands: Vec<Hand<D>>,
@@ -33,7 +35,8 @@ pub fn cast_all<D: Disk>(
 // The last client, with its pieces.
 fn take_client(clients: &mut Vec<ClientEnd>, pieces: &mut Vec<Vec<Bytes>>) -> Option<Client>
     requires { vec_len pieces.old ≡ vec_len clients.old }
-    ensures { HasTakenClient clients.old.items clients.new.items pieces.old.items pieces.new.items result }
+    ensures { HasTakenClient clients.old.items clients.new.items pieces.old.items pieces.new.items
+        result }
 {
     let end = clients.pop()?;
     let pieces = pieces.pop().unwrap();
@@ -47,7 +50,8 @@ pub fn dismiss_all<D: Disk>(
     hands: &mut Vec<Hand<D>>,
 )
     requires room { length hands.old.items + length actors.items ≤ vec_capacity hands.old }
-    requires clients { length clients.old.items + length (clients_in actors.items) ≤ vec_capacity clients.old }
+    requires clients { length clients.old.items + length (clients_in actors.items)
+        ≤ vec_capacity clients.old }
     ensures hands { hands.new.items ≡ hands.old.items ++ hands_in actors.items }
     ensures clients { clients.new.items ≡ clients.old.items ++ clients_in actors.items }
 {
@@ -60,8 +64,9 @@ pub fn dismiss_all<D: Disk>(
 
 // A client's end comes last, if there is a client.
 fn put_client(clients: &mut Vec<ClientEnd>, client: Option<Client>)
-    requires { length clients.old.items + length (end_in client) ≤ vec_capacity clients.old }
-    ensures items { clients.new.items ≡ clients.old.items ++ end_in client }
+    requires { length clients.old.items + length (ends_of_client client)
+        ≤ vec_capacity clients.old }
+    ensures items { clients.new.items ≡ clients.old.items ++ ends_of_client client }
     ensures capacity { vec_capacity clients.new ≡ vec_capacity clients.old }
 {
     if let Some(client) = client {

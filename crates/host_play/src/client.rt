@@ -6,7 +6,7 @@ ghost use Rattle.host_worker.specs.Servers.{IsClientOf, IsServer};
 ghost use Rattle.host_worker.specs.Waits.{MayWait};
 ghost use Rattle.host_play.specs.Calls.{CanPlay, HasDone, HasHelped, MayPlay};
 ghost use Rattle.host_play.specs.Logs.{HasPlayed, HasPlayedOut};
-ghost use Rattle.host_play.specs.Opened.{HasRoomFor};
+ghost use Rattle.host_play.specs.Opened.{HasRoomForLines};
 ghost use Rattle.host_play.specs.Pieces.{ArePieces, IsNextPiece, WasTaken, piece_length};
 
 use crate::actor::Client;
@@ -32,8 +32,9 @@ pub fn play_session<R: Wait, D: Disk, G: Gate>(
     requires client { IsClientOf server.now client.old.end }
     requires hand { IsHandOf server.now hand.old }
     requires new { IsNewClient client.old.end }
-    requires room { HasRoomFor session.now.lines.items client.old.end.plan.spec }
-    requires pieces { ArePieces client.old.end.plan.spec.size session.now.lines.items client.old.pieces.items }
+    requires room { HasRoomForLines session.now.lines.items client.old.end.plan.spec }
+    requires pieces { ArePieces client.old.end.plan.spec.size session.now.lines.items
+        client.old.pieces.items }
     requires playable { All CanPlay session.now.lines.items }
     ensures plan { client.new.end.plan ≡ client.old.end.plan }
     ensures finish { client.new.end.finish ≡ Some session.now.finish }
@@ -75,7 +76,7 @@ fn play_lines<R: Wait, D: Disk, G: Gate>(
     requires client { IsClientOf server.now client.old.end }
     requires hand { IsHandOf server.now hand.old }
     requires new { IsNewClient client.old.end }
-    requires room { HasRoomFor lines.now client.old.end.plan.spec }
+    requires room { HasRoomForLines lines.now client.old.end.plan.spec }
     requires pieces { ArePieces client.old.end.plan.spec.size lines.now client.old.pieces.items }
     requires playable { All CanPlay lines.now }
     ensures plan { client.new.end.plan ≡ client.old.end.plan }
@@ -105,10 +106,12 @@ fn play_line<R: Wait, D: Disk, G: Gate>(
     requires hand { IsHandOf server.now hand.old }
     requires may { MayPlay line.now client.old.end }
     requires playable { CanPlay line.now }
-    requires piece { IsNextPiece (piece_length client.old.end.plan.spec.size line.now) client.old.pieces.items }
+    requires piece { IsNextPiece (piece_length client.old.end.plan.spec.size line.now)
+        client.old.pieces.items }
     ensures done { HasDone line.now client.old.end client.new.end }
     ensures helped { HasHelped server.now hand.old hand.new client.old.end client.new.end }
-    ensures piece { WasTaken (piece_length client.old.end.plan.spec.size line.now) client.old.pieces.items client.new.pieces.items }
+    ensures piece { WasTaken (piece_length client.old.end.plan.spec.size line.now)
+        client.old.pieces.items client.new.pieces.items }
 {
     let end = &mut client.end;
     match *line {

@@ -12,7 +12,8 @@ use host_report::Closing;
 
 /// Flushes the device after the sessions, unless that is cut.
 pub fn close_device<D: Disk>(device: &mut Device<D>, cut: bool) -> Closing
-    ensures steps { (steps_of device.new).items ≡ (steps_of device.old).items ++ closing_steps result }
+    ensures steps { (steps_of device.new).items
+        ≡ (steps_of device.old).items ++ closing_steps result }
     ensures cut { (result ≡ WasCut) ↔ IsTrue cut }
     ensures fixed { fixed_of device.new ≡ fixed_of device.old }
 {
@@ -21,7 +22,8 @@ pub fn close_device<D: Disk>(device: &mut Device<D>, cut: bool) -> Closing
 
 // Makes the closing flush, with no session's number.
 fn flush<D: Disk>(device: &mut Device<D>) -> Closing
-    ensures steps { (steps_of device.new).items ≡ (steps_of device.old).items ++ closing_steps result }
+    ensures steps { (steps_of device.new).items
+        ≡ (steps_of device.old).items ++ closing_steps result }
     ensures not_cut { ¬ (result ≡ WasCut) }
     ensures fixed { fixed_of device.new ≡ fixed_of device.old }
 {

@@ -10,8 +10,8 @@ use host_device::{Device, NoDevice};
 use host_io::Disk;
 use std::alloc::Global;
 
-/// A device over a disk that is attached, with nothing pending. Its history is kept for the report, and has room for so many
-/// steps.
+/// A device over a disk that is attached, with nothing pending. Its history is kept for the report,
+/// and has room for so many steps.
 pub fn open_device<D: Disk>(
     alloc: Global,
     disk: D,
@@ -25,7 +25,9 @@ pub fn open_device<D: Disk>(
     requires settled { IsTrue (D.shape disk).tells → (D.state disk).pending ≡ [] }
     ensures opening { IfOk result (λ device. opening_of device ≡ disk) }
     ensures disk { IfOk result (λ device. disk_of device ≡ disk) }
-    ensures steps { IfOk result (λ device. ((steps_of device).items ≡ []) × ((steps_of device).kept ≡ true) × ((steps_of device).room ≡ room)) }
+    ensures steps { IfOk result (λ device.
+        ((steps_of device).items ≡ []) × ((steps_of device).kept ≡ true)
+        × ((steps_of device).room ≡ room)) }
     ensures refused { IfErr result (λ no. no.disk ≡ disk) }
 {
     match Cache::new(alloc, disk, blocks, size) {
@@ -37,10 +39,13 @@ pub fn open_device<D: Disk>(
 // A device over an empty cache.
 fn open_over<D: Disk>(alloc: Global, cache: Cache<D>, room: u64) -> Result<Device<D>, NoPlay<D>>
     requires empty { held_of cache ≡ record { lines = []; victim = None } }
-    requires settled { IsTrue (D.shape (disk_under cache)).tells → (D.state (disk_under cache)).pending ≡ [] }
+    requires settled { IsTrue (D.shape (disk_under cache)).tells
+        → (D.state (disk_under cache)).pending ≡ [] }
     ensures opening { IfOk result (λ device. opening_of device ≡ disk_under cache) }
     ensures disk { IfOk result (λ device. disk_of device ≡ disk_under cache) }
-    ensures steps { IfOk result (λ device. ((steps_of device).items ≡ []) × ((steps_of device).kept ≡ true) × ((steps_of device).room ≡ room)) }
+    ensures steps { IfOk result (λ device.
+        ((steps_of device).items ≡ []) × ((steps_of device).kept ≡ true)
+        × ((steps_of device).room ≡ room)) }
     ensures refused { IfErr result (λ no. no.disk ≡ disk_under cache) }
 {
     match Device::new(alloc, cache, room, true) {

@@ -3,7 +3,7 @@ ghost use Rattle.host_record.specs.declared.finish.Finish.TheVariants.{Abort, Dr
 ghost use Rattle.host_worker.specs.Hands.{IsHandOf};
 ghost use Rattle.host_worker.specs.Servers.{IsClientOf, IsServer};
 ghost use Rattle.host_worker.specs.Waits.{MayWait};
-ghost use Rattle.host_play.specs.Calls.{HasClosed, HasHelped};
+ghost use Rattle.host_play.specs.Calls.{HasClosedClient, HasHelped};
 
 use host_io::{Disk, Gate};
 use host_record::Finish;
@@ -26,7 +26,7 @@ pub fn end_session<R: Wait, D: Disk, G: Gate>(
     requires client { IsClientOf server.now client.old }
     requires hand { IsHandOf server.now hand.old }
     requires may { MayWait 0 client.old }
-    ensures closed { HasClosed finish client.old client.new }
+    ensures closed { HasClosedClient finish client.old client.new }
     ensures helped { HasHelped server.now hand.old hand.new client.old client.new }
 {
     match finish {
@@ -48,7 +48,7 @@ fn drain_session<R: Wait, D: Disk, G: Gate>(
     requires client { IsClientOf server.now client.old }
     requires hand { IsHandOf server.now hand.old }
     requires may { MayWait 0 client.old }
-    ensures closed { HasClosed Drain client.old client.new }
+    ensures closed { HasClosedClient Drain client.old client.new }
     ensures helped { HasHelped server.now hand.old hand.new client.old client.new }
 {
     drain(rt, alloc, server, client, hand, gate);
@@ -67,7 +67,7 @@ fn abort_session<R: Wait, D: Disk, G: Gate>(
     requires client { IsClientOf server.now client.old }
     requires hand { IsHandOf server.now hand.old }
     requires may { MayWait 0 client.old }
-    ensures closed { HasClosed Abort client.old client.new }
+    ensures closed { HasClosedClient Abort client.old client.new }
     ensures helped { HasHelped server.now hand.old hand.new client.old client.new }
 {
     abort(rt, alloc, server, client, hand, gate);

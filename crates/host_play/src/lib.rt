@@ -1,4 +1,5 @@
-//! A script is played over the workers: a client for each session and the workers, each in a thread of its own.
+//! A script is played over the workers: a client for each session and the workers, each in a thread
+//! of its own.
 #![tactic(auto)]
 
 mod acting;

@@ -2,7 +2,8 @@
 ghost use Rattle.std.specs.Prelude.{◌≡◌, ◌*◌, ◌≤◌, length};
 ghost use Rattle.host_worker.specs.Hands.{IsHandOf};
 ghost use Rattle.host_worker.specs.Servers.{IsClientOf, IsServer};
-ghost use Rattle.script_model.specs.declared.script.ScriptLine.TheVariants.{Attach, Fill, Send, Show, WaitAll, WaitFor};
+ghost use Rattle.script_model.specs.declared.script.ScriptLine.TheVariants.{Attach, Fill, Send};
+ghost use Rattle.script_model.specs.declared.script.ScriptLine.TheVariants.{Show, WaitAll, WaitFor};
 ghost use Rattle.host_play.specs.Calls.{HasDone, HasHelped, IsAsBefore, MayPlay};
 
 use host_block::Bytes;

@@ -2,7 +2,8 @@
 ghost use Rattle.std.specs.Prelude.{◌≡◌, ◌≤◌, All, length, IfOk};
 ghost use Rattle.script_model.specs.Limit.{is_record as sends};
 ghost use Rattle.script_model.specs.Plans.{plan_of, plans_of};
-ghost use Rattle.host_play.specs.Counts.{attach_count, call_count, is_attach as attaches, is_call as calls, record_count};
+ghost use Rattle.host_play.specs.Counts.{attach_count, call_count, is_attach_line as attaches};
+ghost use Rattle.host_play.specs.Counts.{is_call as calls, record_count};
 ghost use Rattle.host_play.specs.Opened.{spec_for, specs_from};
 
 use host_block::{BlockSize, Oom, Range};
@@ -23,9 +24,11 @@ pub fn specs_for(
     depth: u32,
 ) -> Result<Vec<SessionSpec>, Oom>
     requires few { length (plans_of script.now) ≤ 16 }
-    requires records { All (λ session. record_count session.lines.items ≤ 65535) script.now.sessions.items }
+    requires records { All (λ session. record_count session.lines.items ≤ 65535)
+        script.now.sessions.items }
     requires ranges { length ranges.now ≡ length (plans_of script.now) }
-    ensures { IfOk result (λ specs. specs.items ≡ specs_from 1 (plans_of script.now) ranges.now size depth) }
+    ensures { IfOk result
+        (λ specs. specs.items ≡ specs_from 1 (plans_of script.now) ranges.now size depth) }
 {
     let sessions = script.sessions.as_slice();
     let Ok(mut specs) = Vec::with_capacity(alloc, sessions.len()) else {
@@ -37,7 +40,8 @@ pub fn specs_for(
     Ok(specs)
 }
 
-// The spec of a session, with room for all that its lines can make. Its histories are kept for the report.
+// The spec of a session, with room for all that its lines can make. Its histories are kept for the
+// report.
 fn spec_for(
     number: u32,
     session: &SessionScript,

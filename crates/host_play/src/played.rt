@@ -5,7 +5,8 @@ use host_io::Disk;
 use host_report::Report;
 use host_worker::Served;
 
-/// What a script is played on: an attached disk with nothing pending, its blocks, and the header that its table was read by.
+/// What a script is played on: an attached disk with nothing pending, its blocks, and the header
+/// that its table was read by.
 #[derive(Drop)]
 pub struct Ground<D: Disk> {
     pub disk: D,
@@ -14,7 +15,8 @@ pub struct Ground<D: Disk> {
     pub which: Which,
 }
 
-/// How it is played: so many workers beside the clients, so many elements in each ring, and with or without a flush at the end.
+/// How it is played: so many workers beside the clients, so many elements in each ring, and with or
+/// without a flush at the end.
 #[derive(Clone, Copy, Debug, PartialEq, Eq)]
 pub struct Setting {
     pub workers: u32,

@@ -1,5 +1,6 @@
 //! A script is played.
-ghost use Rattle.std.specs.Prelude.{◌≡◌, ◌↔◌, ◌≤◌, ◌+◌, ◌<◌, [], All, IfOk, IfErr, IsTrue, length, map, true, None, vec_capacity};
+ghost use Rattle.std.specs.Prelude.{◌≡◌, ◌↔◌, ◌≤◌, ◌+◌, ◌<◌, [], All, IfOk, IfErr, IsTrue, length};
+ghost use Rattle.std.specs.Prelude.{map, true, None, vec_capacity};
 ghost use Rattle.host_device.specs.Faults.{RoseBy, faulted_count};
 ghost use Rattle.host_device.specs.Seen.{fixed_of, shape_of, steps_of};
 ghost use Rattle.host_model.specs.Changes.{changes_of};
@@ -10,7 +11,7 @@ ghost use Rattle.host_worker.specs.Accounts.{AreAccounted};
 ghost use Rattle.host_worker.specs.Ends.{AreEnded, hand_end};
 ghost use Rattle.host_worker.specs.Finishes.{AreClosed, AreHands};
 ghost use Rattle.host_worker.specs.Gathered.{reported};
-ghost use Rattle.host_worker.specs.Servers.{IsServer, keeps_of, plan_of, session_count};
+ghost use Rattle.host_worker.specs.Servers.{IsServer, keeps_of, plan_of_session, session_count};
 ghost use Rattle.script_model.specs.Limit.{limit_of};
 ghost use Rattle.script_model.specs.Planned.{can_be_said};
 ghost use Rattle.script_model.specs.Plans.{plans_of};
@@ -35,8 +36,8 @@ use std::alloc::Global;
 use std::sync::Wait;
 use std::thread::Threads;
 
-/// Plays a script: each of its sessions on a partition of this range, by a client in a thread of its own, beside the workers.
-/// The device is then flushed, unless that is cut.
+/// Plays a script: each of its sessions on a partition of this range, by a client in a thread of
+/// its own, beside the workers. The device is then flushed, unless that is cut.
 pub fn play<R: Threads + Wait + Sync, D: Disk + Send, G: Gate + Sync>(
     rt: &R,
     alloc: Global,
@@ -50,23 +51,36 @@ pub fn play<R: Threads + Wait + Sync, D: Disk + Send, G: Gate + Sync>(
     requires limits { limit_of ground.size (plans_of script.now) ≡ None }
     requires ranges { length ranges.now ≡ length (plans_of script.now) }
     requires inside { All (λ range. range.first + range.count ≤ ground.blocks) ranges.now }
-    requires ground { IsGround (D.shape ground.disk) (D.state ground.disk) ground.blocks ground.size }
+    requires ground { IsGround (D.shape ground.disk) (D.state ground.disk) ground.blocks
+        ground.size }
     requires setting { IsSetting setting }
 
     // What was played, and by what.
     ensures played { IfOk result (λ run. PlaysPlans (plans_of script.now) run.report) }
-    ensures report { IfOk result (λ run. IsReportOf (plans_of script.now) ranges.now setting.workers setting.depth run.report) }
+    ensures report { IfOk result (λ run.
+        IsReportOf (plans_of script.now) ranges.now setting.workers setting.depth run.report) }
     ensures served { IfOk result (λ run. reported run.served ≡ run.report) }
-    ensures image { IfOk result (λ run. (run.report.blocks ≡ ground.blocks) × (run.report.size ≡ ground.size) × (run.report.which ≡ ground.which)) }
-    ensures ranges { IfOk result (λ run. map (λ session. session.range) run.report.sessions.items ≡ ranges.now) }
+    ensures image { IfOk result (λ run.
+        (run.report.blocks ≡ ground.blocks) × (run.report.size ≡ ground.size)
+        × (run.report.which ≡ ground.which)) }
+    ensures ranges { IfOk result
+        (λ run. map (λ session. session.range) run.report.sessions.items ≡ ranges.now) }
     ensures cut { IfOk result (λ run. (run.report.closing ≡ WasCut) ↔ IsTrue setting.cut) }
 
     // What became of the disk.
-    ensures told { IsTrue (D.shape ground.disk).tells → IfOk result (λ run. KeepsImage (D.state ground.disk).durable ground.blocks ground.size (changes_of run.report.steps.items) (D.state run.disk)) }
+    ensures told { IsTrue (D.shape ground.disk).tells
+        → IfOk result (λ run.
+        KeepsImage (D.state ground.disk).durable ground.blocks ground.size
+        (changes_of run.report.steps.items) (D.state run.disk)) }
     ensures shape { IfOk result (λ run. D.shape run.disk ≡ D.shape ground.disk) }
     ensures opening { IfOk result (λ run. D.opening run.disk ≡ D.opening ground.disk) }
-    ensures faults { IfOk result (λ run. RoseBy (faulted_count run.report.steps.items) (D.counts ground.disk).faults (D.counts run.disk).faults) }
-    ensures unfailing { IsTrue (D.never_fails ground.disk) → IfOk result (λ run. IsTrue (D.never_fails run.disk) × ((D.counts run.disk).faults ≡ (D.counts ground.disk).faults)) }
+    ensures faults { IfOk result (λ run.
+        RoseBy (faulted_count run.report.steps.items) (D.counts ground.disk).faults
+        (D.counts run.disk).faults) }
+    ensures unfailing { IsTrue (D.never_fails ground.disk)
+        → IfOk result (λ run.
+        IsTrue (D.never_fails run.disk)
+        × ((D.counts run.disk).faults ≡ (D.counts ground.disk).faults)) }
     ensures refused { IfErr result (λ no. no.disk ≡ ground.disk) }
 {
     let (blocks, size, which) = (ground.blocks, ground.size, ground.which);
@@ -94,11 +108,15 @@ fn perform<R: Threads + Wait + Sync, D: Disk + Send, G: Gate + Sync>(
     requires server { IsServer stage.server }
     requires cast { All (IsCast stage.server (plans_of script.now)) stage.actors.items }
     requires numbers { numbers_of stage.actors.items ≡ below stage.server.hands }
-    requires clients { of_clients (λ client. client.plan) stage.actors.items ≡ map plan_of stage.server.sessions.items }
-    requires hands_room { (stage.hands.items ≡ []) × (stage.server.hands ≤ vec_capacity stage.hands) }
-    requires clients_room { (stage.clients.items ≡ []) × (session_count stage.server ≤ vec_capacity stage.clients) }
+    requires clients { of_clients (λ client. client.plan) stage.actors.items
+        ≡ map plan_of_session stage.server.sessions.items }
+    requires hands_room { (stage.hands.items ≡ [])
+        × (stage.server.hands ≤ vec_capacity stage.hands) }
+    requires clients_room { (stage.clients.items ≡ [])
+        × (session_count stage.server ≤ vec_capacity stage.clients) }
     ensures ended { HasPerformed (plans_of script.now) stage.server result.ends }
-    ensures story { (result.ends.story ≡ (steps_of result.device).items) × (result.ends.size ≡ (shape_of result.device).size) }
+    ensures story { (result.ends.story ≡ (steps_of result.device).items)
+        × (result.ends.size ≡ (shape_of result.device).size) }
     ensures device { fixed_of result.device ≡ fixed_of (opening_of stage.server.device) }
     ensures keeps { result.ends.keeps ≡ keeps_of stage.server }
 {
@@ -119,11 +137,16 @@ fn leave_stage<D: Disk>(stage: Stage<D>) -> Finished<D>
     requires server { IsServer stage.server }
     requires hands { AreHands stage.server (hands_in stage.actors.items) }
     requires clients { AreClosed stage.server (clients_in stage.actors.items) }
-    requires accounted { AreAccounted (hands_in stage.actors.items) (clients_in stage.actors.items) }
-    requires hands_room { (stage.hands.items ≡ []) × (length stage.actors.items ≤ vec_capacity stage.hands) }
-    requires clients_room { (stage.clients.items ≡ []) × (length (clients_in stage.actors.items) ≤ vec_capacity stage.clients) }
-    ensures ended { AreEnded (clients_in stage.actors.items) (map hand_end (hands_in stage.actors.items)) result.ends }
-    ensures story { (result.ends.story ≡ (steps_of result.device).items) × (result.ends.size ≡ (shape_of result.device).size) }
+    requires accounted { AreAccounted (hands_in stage.actors.items)
+        (clients_in stage.actors.items) }
+    requires hands_room { (stage.hands.items ≡ [])
+        × (length stage.actors.items ≤ vec_capacity stage.hands) }
+    requires clients_room { (stage.clients.items ≡ [])
+        × (length (clients_in stage.actors.items) ≤ vec_capacity stage.clients) }
+    ensures ended { AreEnded (clients_in stage.actors.items)
+        (map hand_end (hands_in stage.actors.items)) result.ends }
+    ensures story { (result.ends.story ≡ (steps_of result.device).items)
+        × (result.ends.size ≡ (shape_of result.device).size) }
     ensures device { fixed_of result.device ≡ fixed_of (opening_of stage.server.device) }
     ensures keeps { result.ends.keeps ≡ keeps_of stage.server }
 {

@@ -3,7 +3,8 @@ ghost use Rattle.std.specs.Prelude.{◌≡◌, ◌≤◌, ◌+◌, [], length, A
 ghost use Rattle.host_device.specs.Seen.{disk_of, shape_of, steps_of};
 ghost use Rattle.script_model.specs.Plans.{plans_of};
 ghost use Rattle.host_play.specs.Opened.{specs_from};
-ghost use Rattle.host_play.specs.Stages.{AreProps, HasRoomForAll, IsGround, IsPlayable, IsSet, IsSetting, IsStaged};
+ghost use Rattle.host_play.specs.Stages.{AreProps, HasRoomForAll, IsGround, AreSessionsPlayable};
+ghost use Rattle.host_play.specs.Stages.{IsSet, IsSetting, IsStaged};
 ghost use Rattle.host_worker.specs.Starts.{AreSpecs};
 
 use crate::actor::Actor;
@@ -41,8 +42,8 @@ pub struct Props<D: Disk> {
     pub hands: Vec<Hand<D>>,
 }
 
-/// Starts a server over this disk, with a session for each of the script, and all that take part. All histories have room for
-/// what the script makes at most.
+/// Starts a server over this disk, with a session for each of the script, and all that take part.
+/// All histories have room for what the script makes at most.
 pub fn set_stage<D: Disk>(
     alloc: Global,
     script: &Script,
@@ -50,12 +51,15 @@ pub fn set_stage<D: Disk>(
     ground: Ground<D>,
     setting: Setting,
 ) -> Result<Stage<D>, NoPlay<D>>
-    requires script { IsPlayable script.now.sessions.items }
+    requires script { AreSessionsPlayable script.now.sessions.items }
     requires ranges { length ranges.now ≡ length (plans_of script.now) }
     requires inside { All (λ range. range.first + range.count ≤ ground.blocks) ranges.now }
-    requires ground { IsGround (D.shape ground.disk) (D.state ground.disk) ground.blocks ground.size }
+    requires ground { IsGround (D.shape ground.disk) (D.state ground.disk) ground.blocks
+        ground.size }
     requires setting { IsSetting setting }
-    ensures { MatchResult result (λ stage. IsSet ground.disk (plans_of script.now) ranges.now ground.size setting stage) (λ no. no.disk ≡ ground.disk) }
+    ensures { MatchResult result
+        (λ stage. IsSet ground.disk (plans_of script.now) ranges.now ground.size setting stage)
+        (λ no. no.disk ≡ ground.disk) }
 {
     let Ground {
         disk,
@@ -83,9 +87,11 @@ fn take_props<D: Disk>(
     depth: u32,
     hands: u32,
 ) -> Result<Props<D>, Oom>
-    requires script { IsPlayable script.now.sessions.items }
+    requires script { AreSessionsPlayable script.now.sessions.items }
     requires ranges { length ranges.now ≡ length (plans_of script.now) }
-    ensures { IfOk result (λ props. AreProps (plans_of script.now) (specs_from 1 (plans_of script.now) ranges.now size depth) size hands props) }
+    ensures { IfOk result (λ props.
+        AreProps (plans_of script.now) (specs_from 1 (plans_of script.now) ranges.now size depth)
+        size hands props) }
 {
     let specs = specs_for(alloc, script, ranges, size, depth)?;
     let pieces = all_pieces(alloc, script, size)?;
@@ -117,9 +123,11 @@ fn start<D: Disk>(
 ) -> Result<Stage<D>, NoPlay<D>>
     requires hands { (length props.specs.items ≤ hands) × (1 ≤ hands) × (hands ≤ 4294967293) }
     requires device { ((steps_of device).items ≡ []) × ((shape_of device).size ≡ size) }
-    requires specs { AreSpecs (steps_of device).kept (shape_of device).blocks size props.specs.items }
+    requires specs { AreSpecs (steps_of device).kept (shape_of device).blocks size
+        props.specs.items }
     requires room { HasRoomForAll hands props }
-    ensures { MatchResult result (λ stage. IsStaged device props hands stage) (λ no. no.disk ≡ disk_of device) }
+    ensures { MatchResult result (λ stage. IsStaged device props hands stage)
+        (λ no. no.disk ≡ disk_of device) }
 {
     let Props {
         specs,

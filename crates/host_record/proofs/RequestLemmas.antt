@@ -4,7 +4,7 @@ use Rattle.std.proofs.lemmas.List.{append-nil, drop_all, length-drop, take_all}
 use Rattle.byteorder.specs.Endian.{little_bytes}
 use Rattle.byteorder.specs.Numbers.{little_number-reads_back}
 use Rattle.host_record.specs.declared.request.Request.{Request}
-use Rattle.host_record.specs.Request.{request_bytes, request_of}
+use Rattle.host_record.specs.{request_bytes, request_of}
 use Rattle.host_record.proofs.ByteLemmas.{little_bytes-at}
 
 -- the bytes of the request that has 32 bytes are these bytes

@@ -9,7 +9,7 @@ use Rattle.std.specs.Prelude.{FitsSigned}
 use Rattle.byteorder.specs.Endian.{little_number, little_bytes}
 use Rattle.byteorder.specs.Numbers.{little_from-lt, little_number-reads_back}
 use Rattle.host_record.specs.declared.response.Response.{Response}
-use Rattle.host_record.specs.Response.{all_zero, is_padded, response_bytes, response_fields, response_of}
+use Rattle.host_record.specs.{all_zero, is_padded, response_bytes, response_fields, response_of}
 use Rattle.host_record.proofs.ByteLemmas.{little_bytes-at}
 
 both : (a b : Bool) → a && b ≡ true → (a ≡ true) × (b ≡ true)

@@ -6,8 +6,9 @@ use Rattle.host_record.specs.declared.request.Request.{Request}
 -- the bytes of a request
 abbrev pub request_bytes : Request → List ℕ
 request_bytes r =
-    little_bytes 4 r.command ++ little_bytes 4 r.reqid ++ little_bytes 2 r.group ++ little_bytes 2 r.vmoid ++ little_bytes 4 r.length
-    ++ little_bytes 8 r.vmo_offset ++ little_bytes 8 r.dev_offset
+    little_bytes 4 r.command ++ little_bytes 4 r.reqid ++ little_bytes 2 r.group
+    ++ little_bytes 2 r.vmoid ++ little_bytes 4 r.length ++ little_bytes 8 r.vmo_offset
+    ++ little_bytes 8 r.dev_offset
 
 -- the request that has these bytes
 abbrev pub request_of : List ℕ → Request

@@ -1,5 +1,6 @@
 -- The 32 bytes of a response, every number with its low byte first.
-use Rattle.std.specs.Prelude.{ℕ, Bool, ◌==◌, ◌&&◌, if◌then◌else◌, List, ◌++◌, drop, slice_range, replicate, Option, Some, None}
+use Rattle.std.specs.Prelude.{ℕ, Bool, ◌==◌, ◌&&◌, if◌then◌else◌, List, ◌++◌, drop, slice_range}
+use Rattle.std.specs.Prelude.{replicate, Option, Some, None}
 use Rattle.std.specs.Int.{w32, cast_unsigned, cast_signed}
 use Rattle.std.specs.List.{list_all}
 use Rattle.byteorder.specs.Endian.{little_number, little_bytes}
@@ -8,8 +9,8 @@ use Rattle.host_record.specs.declared.response.Response.{Response}
 -- the bytes of a response
 abbrev pub response_bytes : Response → List ℕ
 response_bytes a =
-    little_bytes 4 (cast_unsigned w32 a.status) ++ little_bytes 4 a.reqid ++ little_bytes 2 a.group ++ replicate 2 0 ++ little_bytes 4 a.count
-    ++ replicate 16 0
+    little_bytes 4 (cast_unsigned w32 a.status) ++ little_bytes 4 a.reqid ++ little_bytes 2 a.group
+    ++ replicate 2 0 ++ little_bytes 4 a.count ++ replicate 16 0
 
 -- the fields that these bytes have in a response
 unfoldable pub response_fields : List ℕ → Response

@@ -1,15 +1,17 @@
 ghost use Rattle.std.specs.Prelude.{◌≡◌};
-ghost use Rattle.host_record.specs.Command.{opcode, is_grouped, is_last, has_unknown_bit};
+ghost use Rattle.host_record.specs.Command.{opcode, is_grouped, is_last, is_forced};
+ghost use Rattle.host_record.specs.Command.{has_unknown_bit};
 ghost use Rattle.host_record.specs.Request.{request_bytes, request_of};
 
 use crate::opcode::Opcode;
 use byteorder::{ByteOrder, LittleEndian};
 
-/// What a client asks for. Lengths and offsets are in blocks, and a field that the opcode doesn't use
-/// is free.
+/// What a client asks for. Lengths and offsets are in blocks, and a field that the opcode doesn't
+/// use is free.
 #[derive(Clone, Copy, Debug, PartialEq, Eq)]
 pub struct Request {
-    /// The opcode in the low eight bits; `0x800` makes it a member of its group, `0x400` the last one.
+    /// The opcode in the low eight bits; `0x800` makes it a member of its group, `0x400` the last
+    /// one, and `0x1000` forces a write.
     pub command: u32,
     /// A number of the client's own, which the answer gives back.
     pub reqid: u32,
@@ -77,11 +79,18 @@ impl Request {
         self.command & 0x400 != 0
     }
 
-    /// Whether the command has a bit that means nothing.
+    /// Whether the request is to be durable when it is answered. Only a write may ask for this.
+    pub fn is_forced(&self) -> bool
+        ensures { result ≡ is_forced self.now }
+    {
+        self.command & 0x1000 != 0
+    }
+
+    /// Whether the command has a bit that means nothing for its opcode.
     pub fn has_unknown_bit(&self) -> bool
         ensures { result ≡ has_unknown_bit self.now }
     {
-        self.command & 0xfffff300 != 0
+        self.command & 0xffffe300 != 0 || self.is_forced() && self.opcode() != Some(Opcode::Write)
     }
 }
 

@@ -1,5 +1,6 @@
 ghost use Rattle.std.specs.Prelude.{◌≡◌, ◌↔◌, IsTrue, IsSome, IfSome, Some};
-ghost use Rattle.host_record.specs.Response.{all_zero, is_padded, response_bytes, response_fields, response_of};
+ghost use Rattle.host_record.specs.Response.{all_zero, is_padded, response_bytes, response_fields};
+ghost use Rattle.host_record.specs.Response.{response_of};
 
 use byteorder::{ByteOrder, LittleEndian};
 

@@ -1,10 +1,8 @@
 -- The ranges of served partitions lie in the image.
 use Rattle.std.proofs.Common.{◌+◌, ◌≤◌, List, [], ◌∷◌, arith}
 use Rattle.std.specs.List.{AllByRecursion}
-use Rattle.host_part.specs.Ranges.{IsRangeOf}
-use Rattle.host_part.specs.Served.{Layout}
-use Rattle.host_report.specs.Laws.{RangesLieInImage}
-use Rattle.host_report.specs.declared.session.SessionReport.{SessionReport}
+use Rattle.host_part.specs.{IsRangeOf, Layout}
+use Rattle.host_report.specs.{RangesLieInImage, SessionReport}
 
 each_lies : (layout : Layout) (sessions : List SessionReport) → AllByRecursion (λ s. IsRangeOf layout s.part s.range) sessions
     → AllByRecursion (λ s. s.range.first + s.range.count ≤ layout.blocks) sessions

@@ -1,5 +1,6 @@
 -- What makes the report of a run lawful for an image.
-use Rattle.std.specs.Prelude.{◌≡◌, ℕ, Bool, true, false, ◌==◌, ◌&&◌, nat_le, nat_lt, List, [], ◌∷◌, ◌++◌, map, length, filter, sum_by, IsTrue}
+use Rattle.std.specs.Prelude.{◌≡◌, ℕ, Bool, true, false, ◌==◌, ◌&&◌, nat_le, nat_lt, List, [], ◌∷◌}
+use Rattle.std.specs.Prelude.{◌++◌, map, length, filter, sum_by, IsTrue}
 use Rattle.std.specs.List.{list_any, AllByRecursion, range_with_len}
 use Rattle.host_block.specs.declared.op.Op.TheVariants.{Flush}
 use Rattle.host_block.specs.Changes.{IsLegal}
@@ -22,14 +23,21 @@ use Rattle.host_report.specs.declared.session.SessionReport.{SessionReport}
 
 -- ---- the image
 
--- the image's table is read by the report's header, and each session is on a partition that this table serves
+-- the image's table is read by the report's header, and each session is on a partition that this
+-- table serves
 pub record IsOnTable (image : List (List ℕ)) (report : Report) : Type 0 where
   pub disk_id : List ℕ
   pub first_usable : ℕ
   pub last_usable : ℕ
   pub entries : List Entry
   pub table : IsTable image report.which disk_id first_usable last_usable entries
-  pub ranges : AllByRecursion (λ s. IsRangeOf (record { first_usable = first_usable; last_usable = last_usable; blocks = length image; entries = entries }) s.part s.range) report.sessions.items
+  pub ranges : AllByRecursion (λ s.
+      IsRangeOf (record {
+        first_usable = first_usable;
+        last_usable = last_usable;
+        blocks = length image;
+        entries = entries;
+      }) s.part s.range) report.sessions.items
 
 -- the report counts the image's blocks, and names their length
 pub record IsOfImage (image : List (List ℕ)) (report : Report) : Type 0 where
@@ -52,7 +60,17 @@ session_of report s = record {
 
 -- the closing flush, with a fault or without
 abbrev pub closing_flush : Bool → Step
-closing_flush faulted = record { hand = 0; session = 0; index = 0; k = 0; op = Flush; block = 0; bytes = []; faulted = faulted }
+closing_flush faulted =
+    record {
+      hand = 0;
+      session = 0;
+      index = 0;
+      k = 0;
+      op = Flush;
+      block = 0;
+      bytes = [];
+      faulted = faulted;
+    }
 
 -- the steps after those of the sessions
 abbrev pub closing_steps : Closing → List Step
@@ -89,13 +107,17 @@ ran_short sessions = list_any (λ s. list_any is_short_of_frames s.log.items) se
 -- the run is lawful, but for its partitions
 pub record IsLawfulRun (image : List (List ℕ)) (report : Report) : Type 0 where
   -- sessions are numbered from 1, and each is lawful
-  pub numbers : map (λ s. s.number) report.sessions.items ≡ range_with_len 1 (length report.sessions.items)
+  pub numbers : map (λ s. s.number) report.sessions.items
+      ≡ range_with_len 1 (length report.sessions.items)
   pub sessions : AllByRecursion (λ s. IsLawfulSession (session_of report s)) report.sessions.items
   -- the steps are those of the sessions and the closing flush, and one legal history of the image
-  pub closing : report.steps.items ≡ filter (is_of_sessions (length report.sessions.items)) report.steps.items ++ closing_steps report.closing
+  pub closing : report.steps.items
+      ≡ filter (is_of_sessions (length report.sessions.items)) report.steps.items
+      ++ closing_steps report.closing
   pub legal : IsLegal image (changes_of report.steps.items)
   -- frames ran short only where more than the pool has were asked for, and all are home
-  pub frames : IsTrue (implies (ran_short report.sessions.items) (nat_lt 4096 (pages_asked report.sessions.items)))
+  pub frames : IsTrue (implies (ran_short report.sessions.items)
+      (nat_lt 4096 (pages_asked report.sessions.items)))
   pub home : report.frames_home ≡ 4096
 
 pub record IsLawful (image : List (List ℕ)) (report : Report) : Type 0 where

@@ -1,31 +1,38 @@
 -- The text of a client's log.
-use Rattle.std.specs.Prelude.{ℕ, ◌+◌, ◌*◌, true, List, [], ◌∷◌, ◌++◌, take, drop, flat_map, decimal, codes}
+use Rattle.std.specs.Prelude.{ℕ, ◌+◌, ◌*◌, true, List, [], ◌∷◌, ◌++◌, take, drop, flat_map, decimal}
+use Rattle.std.specs.Prelude.{codes}
 use Rattle.std.specs.Fmt.{signed_decimal}
 use Rattle.host_record.specs.declared.response.Response.{Response}
 use Rattle.host_record.specs.Response.{response_fields}
 use Rattle.host_model.specs.declared.event.AttachError.{AttachError}
 use Rattle.host_model.specs.declared.event.AttachError.TheVariants as attach
 use Rattle.host_model.specs.declared.event.Event.{Event}
-use Rattle.host_model.specs.declared.event.Event.TheVariants.{Attached, NotAttached, Filled, Sent, Received, Shown, Drained, Aborted}
+use Rattle.host_model.specs.declared.event.Event.TheVariants.{Attached, NotAttached, Filled, Sent}
+use Rattle.host_model.specs.declared.event.Event.TheVariants.{Received, Shown, Drained, Aborted}
 use Rattle.host_model.specs.Lists.{below}
 use Rattle.host_report.specs.Words.{inner, innermost, yes_or_no}
 use Rattle.host_text.specs.Words.{hex, hex_byte, block_word}
 
-abbrev pub cause_word : AttachError → List ℕ
-cause_word attach.NoFrames = codes "no-frames"
-cause_word attach.NoIds = codes "no-ids"
-cause_word attach.Oom = codes "no-memory"
-cause_word attach.Closed = codes "closed"
+abbrev pub attach_cause_word : AttachError → List ℕ
+attach_cause_word attach.NoFrames = codes "no-frames"
+attach_cause_word attach.NoIds = codes "no-ids"
+attach_cause_word attach.Oom = codes "no-memory"
+attach_cause_word attach.Closed = codes "closed"
 
 abbrev pub answer_line : Response → List ℕ
-answer_line a = inner (codes "answer" ∷ signed_decimal a.status ∷ codes "reqid" ∷ decimal a.reqid ∷ codes "group" ∷ decimal a.group ∷ codes "count" ∷ decimal a.count ∷ [])
+answer_line a =
+    inner (codes "answer" ∷ signed_decimal a.status ∷ codes "reqid" ∷ decimal a.reqid
+    ∷ codes "group" ∷ decimal a.group ∷ codes "count" ∷ decimal a.count ∷ [])
 
 -- the line of an event
 abbrev pub event_line : Event → List ℕ
-event_line (Attached pages id) = inner (codes "attach" ∷ decimal pages ∷ codes "id" ∷ decimal id ∷ [])
-event_line (NotAttached pages cause) = inner (codes "attach" ∷ decimal pages ∷ cause_word cause ∷ [])
+event_line (Attached pages id) =
+    inner (codes "attach" ∷ decimal pages ∷ codes "id" ∷ decimal id ∷ [])
+event_line (NotAttached pages cause) =
+    inner (codes "attach" ∷ decimal pages ∷ attach_cause_word cause ∷ [])
 event_line (Filled id block count byte done) =
-    inner (codes "fill" ∷ decimal id ∷ decimal block ∷ decimal count ∷ hex_byte byte ∷ yes_or_no done ∷ [])
+    inner (codes "fill" ∷ decimal id ∷ decimal block ∷ decimal count ∷ hex_byte byte
+    ∷ yes_or_no done ∷ [])
 event_line (Sent index bytes) = inner (codes "send" ∷ decimal index ∷ hex bytes ∷ [])
 event_line (Received bytes) = answer_line (response_fields bytes)
 event_line (Shown id block count done bytes) =
@@ -39,7 +46,8 @@ block_of size bytes k = take size (drop (k * size) bytes)
 
 -- the line of the k-th block that was shown, from this block on
 abbrev pub shown_line : ℕ → ℕ → List ℕ → ℕ → List ℕ
-shown_line size block bytes k = innermost (decimal (block + k) ∷ block_word (block_of size bytes k) ∷ [])
+shown_line size block bytes k =
+    innermost (decimal (block + k) ∷ block_word (block_of size bytes k) ∷ [])
 
 -- the lines of so many blocks that were shown, from this block on
 abbrev pub shown_text : ℕ → ℕ → ℕ → List ℕ → List ℕ

@@ -19,7 +19,8 @@ use Rattle.host_text.specs.Words.{hex_byte, block_word}
 
 abbrev pub verdict_words : Verdict → Status → List (List ℕ)
 verdict_words Accepted outcome = codes "accepted" ∷ signed_decimal (status_number outcome) ∷ []
-verdict_words (Refused status) outcome = codes "refused" ∷ signed_decimal (status_number status) ∷ []
+verdict_words (Refused status) outcome =
+    codes "refused" ∷ signed_decimal (status_number status) ∷ []
 
 -- the row of a record with its index
 abbrev pub row_line : ℕ × TakenRow → List ℕ
@@ -27,19 +28,24 @@ row_line row = inner (codes "taken" ∷ decimal row.0 ∷ verdict_words (row.1).
 
 -- ---- the buffers' history
 
-abbrev pub entry_words : MemEvent → List (List ℕ)
-entry_words (mem.Attach id pages from) = codes "attach" ∷ decimal id ∷ decimal pages ∷ decimal from ∷ []
-entry_words (mem.Fill id block count byte) = codes "fill" ∷ decimal id ∷ decimal block ∷ decimal count ∷ hex_byte byte ∷ []
-entry_words (mem.Show id block count) = codes "show" ∷ decimal id ∷ decimal block ∷ decimal count ∷ []
-entry_words (mem.Pin index id by) = codes "pin" ∷ decimal index ∷ decimal id ∷ []
-entry_words (mem.Lift index k id block bytes) = codes "lift" ∷ decimal index ∷ decimal k ∷ decimal id ∷ decimal block ∷ block_word bytes ∷ []
-entry_words (mem.Land index k id block bytes) = codes "land" ∷ decimal index ∷ decimal k ∷ decimal id ∷ decimal block ∷ block_word bytes ∷ []
-entry_words (mem.Done index id) = codes "done" ∷ decimal index ∷ decimal id ∷ []
-entry_words (mem.Close index id) = codes "close" ∷ decimal index ∷ decimal id ∷ []
-entry_words (mem.Release id) = codes "release" ∷ decimal id ∷ []
+abbrev pub memory_entry_words : MemEvent → List (List ℕ)
+memory_entry_words (mem.Attach id pages from) =
+    codes "attach" ∷ decimal id ∷ decimal pages ∷ decimal from ∷ []
+memory_entry_words (mem.Fill id block count byte) =
+    codes "fill" ∷ decimal id ∷ decimal block ∷ decimal count ∷ hex_byte byte ∷ []
+memory_entry_words (mem.Show id block count) =
+    codes "show" ∷ decimal id ∷ decimal block ∷ decimal count ∷ []
+memory_entry_words (mem.Pin index id by) = codes "pin" ∷ decimal index ∷ decimal id ∷ []
+memory_entry_words (mem.Lift index k id block bytes) =
+    codes "lift" ∷ decimal index ∷ decimal k ∷ decimal id ∷ decimal block ∷ block_word bytes ∷ []
+memory_entry_words (mem.Land index k id block bytes) =
+    codes "land" ∷ decimal index ∷ decimal k ∷ decimal id ∷ decimal block ∷ block_word bytes ∷ []
+memory_entry_words (mem.Done index id) = codes "done" ∷ decimal index ∷ decimal id ∷ []
+memory_entry_words (mem.Close index id) = codes "close" ∷ decimal index ∷ decimal id ∷ []
+memory_entry_words (mem.Release id) = codes "release" ∷ decimal id ∷ []
 
-abbrev pub entry_line : MemEntry → List ℕ
-entry_line e = inner (codes "memory" ∷ entry_words e.what)
+abbrev pub memory_entry_line : MemEntry → List ℕ
+memory_entry_line e = inner (codes "memory" ∷ memory_entry_words e.what)
 
 -- ---- steps
 
@@ -66,7 +72,8 @@ bytes_words _ faulted bytes = []
 
 -- the words of a step but for its bytes
 abbrev pub step_words : Step → List (List ℕ)
-step_words step = codes "step" ∷ decimal step.session ∷ decimal step.index ∷ decimal step.k ∷ op_word step.op
+step_words step =
+    codes "step" ∷ decimal step.session ∷ decimal step.index ∷ decimal step.k ∷ op_word step.op
     ∷ decimal (printed_block step.op step.block) ∷ ok_or_fault step.faulted ∷ []
 
 abbrev pub step_line : Step → List ℕ

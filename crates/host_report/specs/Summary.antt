@@ -1,5 +1,6 @@
 -- The text of a report's summary.
-use Rattle.std.specs.Prelude.{ℕ, Bool, true, false, not, ◌==◌, List, [], ◌∷◌, ◌++◌, length, count_by, sum_by, decimal, codes}
+use Rattle.std.specs.Prelude.{ℕ, Bool, true, false, not, ◌==◌, List, [], ◌∷◌, ◌++◌, length}
+use Rattle.std.specs.Prelude.{count_by, sum_by, decimal, codes}
 use Rattle.byteorder.specs.Endian.{little_number}
 use Rattle.host_model.specs.declared.event.Event.{Event}
 use Rattle.host_model.specs.declared.event.Event.TheVariants.{Sent, Received}
@@ -49,10 +50,14 @@ failed_answers sessions = events_in is_failed_event sessions
 -- ---- the lines
 
 abbrev pub load_line : ℕ → ℕ → List ℕ
-load_line sessions records = line (codes "load" ∷ decimal sessions ∷ codes "sessions" ∷ decimal records ∷ codes "records" ∷ [])
+load_line sessions records =
+    line (codes "load" ∷ decimal sessions ∷ codes "sessions" ∷ decimal records ∷ codes "records"
+    ∷ [])
 
 abbrev pub answers_line : ℕ → ℕ → ℕ → List ℕ
-answers_line answers good failed = line (codes "answers" ∷ decimal answers ∷ codes "ok" ∷ decimal good ∷ codes "failed" ∷ decimal failed ∷ [])
+answers_line answers good failed =
+    line (codes "answers" ∷ decimal answers ∷ codes "ok" ∷ decimal good ∷ codes "failed"
+    ∷ decimal failed ∷ [])
 
 -- the text of a summary
 abbrev pub summary_text : Report → List ℕ

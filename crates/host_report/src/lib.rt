@@ -1,4 +1,5 @@
-//! What a run reports: its sessions, its steps and how it was closed; what makes a report lawful; and its text.
+//! What a run reports: its sessions, its steps and how it was closed; what makes a report lawful;
+//! and its text.
 #![tactic(auto)]
 
 mod closing;

@@ -5,12 +5,9 @@ use mathlib.Core.Option.{some, some-ne-none}
 use lib.ListN.{get_elem?}
 use Rattle.crossbeam_queue.specs.Fifo.{Pushes, Pops, Forks, Merges, Learns}
 use Rattle.crossbeam_queue.proofs.Lists.{at_set}
-use Rattle.host_block.specs.Lists.{IsPrefix}
+use Rattle.host_block.specs.{IsPrefix}
 use Rattle.host_block.proofs.Prefixes.{prefix_longer}
-use Rattle.host_rings.specs.declared.envelope.Envelope.{Envelope}
-use Rattle.host_rings.specs.declared.request_view.RequestView.{RequestView}
-use Rattle.host_rings.specs.RequestViews.{request_view, pushing_view, popping_view, note_view, hearing_view, spent_request_view}
-use Rattle.host_rings.specs.RequestRule.{IsNumbered, WriterKnows, Fits, InOrder, LeftBehind, StillAhead}
+use Rattle.host_rings.specs.{Envelope, RequestView, request_view, pushing_view, popping_view, note_view, hearing_view, spent_request_view, IsNumbered, WriterKnows, FitsRequests, InOrder, LeftBehind, StillAhead}
 use Rattle.host_rings.proofs.Lists.{at_snoc_or_end, at_middle, AllFit, all_set, all_one, all_snoc}
 
 numbered_more : (es : List Envelope) (x : Envelope) → IsNumbered es → x.index ≡ length es → IsNumbered (es ++ x ∷ [])
@@ -27,7 +24,7 @@ begins = record {
   pushed_is = refl;
   numbered = λ k e at. absurd (some-ne-none e (sym at));
   few = omega arith;
-  fitting = all_one (Fits 0 0 0 [] []) (request_view true true 0 [] [] []) record {
+  fitting = all_one (FitsRequests 0 0 0 [] []) (request_view true true 0 [] [] []) record {
     writes = λ _. record { is_writer = refl; has_records = refl; has_pushed = refl; heard_taken = ([], refl) };
     reads = λ _. record { is_reader = refl; has_records = refl; has_taken = refl };
     heard_pushed = λ p. absurd (true≢false p);
@@ -49,7 +46,7 @@ opens port v n a b none untaken items views h at = let l : RequestView = request
       (λ p. other (((h.fitting j u e).reads p).is_reader ∙ sym d.is_reader)),
       (h.fitting j u e).heard_pushed,
     )) in
-    let New : ℕ → RequestView → Type 0 = Fits h.writer (length vs) n h.pushed h.taken in
+    let New : ℕ → RequestView → Type 0 = FitsRequests h.writer (length vs) n h.pushed h.taken in
     let empty : length h.pushed ≡ 0 = ap length (sym w.has_pushed ∙ none) in record {
       writer = h.writer;
       reader = length vs;
@@ -74,7 +71,7 @@ merges port v other u a b items views h at two at' = let both : RequestView = re
     let w = (h.fitting port v at).writes a in
     let was : get_elem? views other ≡ some u = ⊎_elim (λ x. absurd (two x.0)) (λ x. x.1) (at_set views port other both u at') in
     let d = (h.fitting other u was).reads b in
-    let New : ℕ → RequestView → Type 0 = Fits h.writer port h.records h.pushed h.taken in
+    let New : ℕ → RequestView → Type 0 = FitsRequests h.writer port h.records h.pushed h.taken in
     let Now : ℕ → RequestView → Type 0 = λ j y. j ≢ other → New j y in
     let now : AllFit Now vs = all_set Now views port both
     (λ _. record {
@@ -104,7 +101,7 @@ pub pushes : (n port : ℕ) (v : RequestView) (x : Envelope) → v.pushes ≡ tr
     → Pushes InOrder n port v x (λ w. w ≡ pushing_view v x)
 pushes n port v x may alone is below items views _ h at = let w : RequestView = pushing_view v x in
     let mine = (h.fitting port v at).writes may in let pushed : List Envelope = h.pushed ++ x ∷ [] in
-    let New : ℕ → RequestView → Type 0 = Fits h.writer h.reader h.records pushed h.taken in
+    let New : ℕ → RequestView → Type 0 = FitsRequests h.writer h.reader h.records pushed h.taken in
     let long : length v.pushed ≡ length h.pushed = ap length mine.has_pushed in let most : v.records ≡ h.records = mine.has_records in (
       w,
       record {
@@ -135,7 +132,7 @@ pub pops : (port : ℕ) (v : RequestView) → v.pops ≡ true → v.pushes ≡ f
     → Pops InOrder port v (λ x w. (x.index ≡ length v.taken) × (length v.taken < v.records) × (w ≡ popping_view v x))
 pops port v may alone x items views h at = let w : RequestView = popping_view v x in
     let mine = (h.fitting port v at).reads may in let taken : List Envelope = h.taken ++ x ∷ [] in
-    let New : ℕ → RequestView → Type 0 = Fits h.writer h.reader h.records h.pushed taken in
+    let New : ℕ → RequestView → Type 0 = FitsRequests h.writer h.reader h.records h.pushed taken in
     let long : length v.taken ≡ length h.taken = ap length mine.has_taken in let most : v.records ≡ h.records = mine.has_records in
     let all : length h.pushed ≡ length (h.taken ++ x ∷ items) = ap length h.pushed_is in let few : length h.pushed ≤ h.records = h.few in
     let place : get_elem? h.pushed (length h.taken) ≡ some x = ap (λ l. get_elem? l (length h.taken)) h.pushed_is ∙ at_middle h.taken items x in (
@@ -174,7 +171,7 @@ finds_empty port v may alone items views h at = let mine = (h.fitting port v at)
 
 -- a pass that knows what was pushed tells it to a new one
 pub tells : (port : ℕ) (v : RequestView) → v.pushes ≡ true → Forks InOrder port v v (note_view v)
-tells port v may items views h at = let New : ℕ → RequestView → Type 0 = Fits h.writer h.reader h.records h.pushed h.taken in
+tells port v may items views h at = let New : ℕ → RequestView → Type 0 = FitsRequests h.writer h.reader h.records h.pushed h.taken in
     let mine = (h.fitting port v at).writes may in record {
       writer = h.writer;
       reader = h.reader;
@@ -196,7 +193,7 @@ either false P xs ys p q = p
 pub hears : (port : ℕ) (v : RequestView) (other : ℕ) (u : RequestView) → v.pops ≡ true → v.pushes ≡ false → u.pushes ≡ false
     → Merges InOrder port v other u (hearing_view v u.heard) spent_request_view
 hears port v other u may alone quiet items views h at two at' = let both : RequestView = hearing_view v u.heard in let vs : List RequestView = set views port both in
-    let New : ℕ → RequestView → Type 0 = Fits h.writer h.reader h.records h.pushed h.taken in
+    let New : ℕ → RequestView → Type 0 = FitsRequests h.writer h.reader h.records h.pushed h.taken in
     let mine = h.fitting port v at in
     let was : get_elem? views other ≡ some u = ⊎_elim (λ x. absurd (two x.0)) (λ x. x.1) (at_set views port other both u at') in
     let now : AllFit New vs = all_set New views port both

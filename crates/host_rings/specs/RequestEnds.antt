@@ -3,14 +3,15 @@ use Rattle.std.specs.Prelude.{ℕ, List, [], ◌∷◌, ◌++◌}
 use Rattle.atomic_table.specs.Seated.{TableId}
 use Rattle.crossbeam_queue.specs.Fifo.{Held}
 use Rattle.host_rings.specs.declared.envelope.Envelope.{Envelope}
-use Rattle.host_rings.specs.RequestViews.{longer}
+use Rattle.host_log.specs.History.{longer}
 use Rattle.host_rings.specs.RequestRule.{LeftBehind, StillAhead}
 
 -- which ring it is
 abbrev pub RingId : Type 0
 RingId = TableId
 
--- the ring, its depth, for how many records it was made, what was pushed, and what the sender heard to be taken
+-- the ring, its depth, for how many records it was made, what was pushed, and what the sender heard
+-- to be taken
 pub record SenderState : Type 0 where
   pub ring : RingId
   pub depth : ℕ
@@ -32,10 +33,12 @@ pub record NoteState : Type 0 where
   pub pushed : List Envelope
 
 abbrev pub sender_of : RingId → ℕ → ℕ → List Envelope → List Envelope → SenderState
-sender_of ring depth records pushed heard = record { ring = ring; depth = depth; records = records; pushed = pushed; heard = heard }
+sender_of ring depth records pushed heard =
+    record { ring = ring; depth = depth; records = records; pushed = pushed; heard = heard }
 
 abbrev pub taker_of : RingId → ℕ → ℕ → List Envelope → List Envelope → TakerState
-taker_of ring depth records taken heard = record { ring = ring; depth = depth; records = records; taken = taken; heard = heard }
+taker_of ring depth records taken heard =
+    record { ring = ring; depth = depth; records = records; taken = taken; heard = heard }
 
 -- one more envelope was pushed
 abbrev pub with_pushed : SenderState → Envelope → SenderState
@@ -49,7 +52,8 @@ with_taken t e = taker_of t.ring t.depth t.records (t.taken ++ e ∷ []) t.heard
 abbrev pub with_heard : TakerState → List Envelope → TakerState
 with_heard t pushed = taker_of t.ring t.depth t.records t.taken (longer t.heard pushed)
 
--- what a full ring can tell the sender: as many as it is deep were pushed last, and before them all that it heard to be taken
+-- what a full ring can tell the sender: as many as it is deep were pushed last, and before them all
+-- that it heard to be taken
 abbrev pub FoundFull : SenderState → Type 0
 FoundFull s = Held s.depth (LeftBehind s.pushed s.heard)
 

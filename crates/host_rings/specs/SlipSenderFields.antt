@@ -8,8 +8,12 @@ use Rattle.host_rings.specs.declared.slip_sender.SlipSender.TheInside.{Inside}
 
 -- the queue's table names the ring
 abbrev pub slip_sender_state : Inside → SlipSenderState
-slip_sender_state s = slip_sender_of s.pass.table_id (ruled_capacity (arc_value s.queue)) (view s.pass).number (view s.pass).pushed
+slip_sender_state s =
+    slip_sender_of s.pass.table_id (ruled_capacity (arc_value s.queue)) (view s.pass).number
+    (view s.pass).pushed
 
 -- a pass of this queue that only pushes
 abbrev pub IsSlipSender : Inside → Type 0
-IsSlipSender s = IsPassOf (arc_value s.queue) s.pass × (view s.pass ≡ hand_view (view s.pass).number (view s.pass).pushed)
+IsSlipSender s =
+    IsPassOf (arc_value s.queue) s.pass
+    × (view s.pass ≡ hand_view (view s.pass).number (view s.pass).pushed)

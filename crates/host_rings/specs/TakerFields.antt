@@ -7,8 +7,12 @@ use Rattle.host_rings.specs.declared.taker.Taker.TheInside.{Inside}
 
 -- the queue's table names the ring
 abbrev pub taker_state : Inside → TakerState
-taker_state t = taker_of t.pass.table_id (ruled_capacity (arc_value t.queue)) (view t.pass).records (view t.pass).taken (view t.pass).heard
+taker_state t =
+    taker_of t.pass.table_id (ruled_capacity (arc_value t.queue)) (view t.pass).records
+    (view t.pass).taken (view t.pass).heard
 
 -- a pass of this queue that only pops
 abbrev pub IsTaker : Inside → Type 0
-IsTaker t = IsPassOf (arc_value t.queue) t.pass × ((view t.pass).pops ≡ true) × ((view t.pass).pushes ≡ false)
+IsTaker t =
+    IsPassOf (arc_value t.queue) t.pass × ((view t.pass).pops ≡ true)
+    × ((view t.pass).pushes ≡ false)

@@ -19,11 +19,11 @@ impl Split<AnswerView> for MakeSender {
 pub struct GatherSender;
 
 impl Join<AnswerView> for GatherSender {
-    ghost use Rattle.host_rings.specs.AnswerViews.{closing_view, spent_view};
+    ghost use Rattle.host_rings.specs.AnswerViews.{closing_view, spent_answer_view};
 
     ghost both = { λ v w. closing_view v w.pushed };
 
-    ghost spent = { spent_view };
+    ghost spent = { spent_answer_view };
 }
 
 /// A slip is pushed, or the ring is found full.

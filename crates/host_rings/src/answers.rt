@@ -17,8 +17,8 @@ use host_block::Oom;
 use std::alloc::Global;
 use std::sync::Arc;
 
-/// An empty ring with room for `depth` slips at once, and its senders by their numbers, one for each hand. It has `Oom`
-/// for an answer only for want of memory.
+/// An empty ring with room for `depth` slips at once, and its senders by their numbers, one for
+/// each hand. It has `Oom` for an answer only for want of memory.
 pub fn answer_ring(
     alloc: Global,
     depth: u32,
@@ -52,12 +52,13 @@ pub fn answer_ring(
 
 /// Ends a ring, and tells where what was taken came from.
 ///
-/// The slips of each sender were taken in the order in which it pushed them, and none more often than the senders together
-/// pushed it.
+/// The slips of each sender were taken in the order in which it pushed them, and none more often
+/// than the senders together pushed it.
 pub fn close_answers(senders: Vec<SlipSender>, taker: SlipTaker)
     requires { AreAllOf taker senders.items }
     ensures order { ComeFrom (map (λ s. s.pushed) senders.items) taker.taken }
-    ensures count { (test : Slip → Bool) → count_by test taker.taken ≤ sum_by (λ s. count_by test s.pushed) senders.items }
+    ensures count { (test : Slip → Bool)
+        → count_by test taker.taken ≤ sum_by (λ s. count_by test s.pushed) senders.items }
 {
     let SlipTaker {
         queue,
@@ -72,7 +73,8 @@ pub fn close_answers(senders: Vec<SlipSender>, taker: SlipTaker)
 // Takes in what a sender pushed.
 fn close_sender(queue: &AnswerQueue, reader: &mut Pass<Slip, AnswerView>, sender: SlipSender)
     requires queue { IsPassOf queue.now reader.old × (sender.ring ≡ reader.old.table_id) }
-    requires place { ((view reader.old).pops ≡ true) × (sender.number ≡ length (view reader.old).closed) }
+    requires place { ((view reader.old).pops ≡ true)
+        × (sender.number ≡ length (view reader.old).closed) }
     ensures queue { IsPassOf queue.now reader.new × (reader.new.table_id ≡ reader.old.table_id) }
     ensures closed { view reader.new ≡ closing_view (view reader.old) sender.pushed }
 {

@@ -1,4 +1,5 @@
-//! The two bounded rings of a session: requests go from one sender to one taker, answers from several senders to one taker.
+//! The two bounded rings of a session: requests go from one sender to one taker, answers from
+//! several senders to one taker.
 #![tactic(auto)]
 
 mod answer_rule;

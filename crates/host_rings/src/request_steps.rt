@@ -83,7 +83,8 @@ impl Outcome<Envelope, RequestView> for PopEnvelope {
     ghost use Rattle.std.specs.Prelude.{◌≡◌, ◌<◌, length};
     ghost use Rattle.host_rings.specs.RequestViews.{popping_view};
 
-    ghost then = { λ v e w. (e.index ≡ length v.taken) × (length v.taken < v.records) × (w ≡ popping_view v e) };
+    ghost then = { λ v e w.
+        (e.index ≡ length v.taken) × (length v.taken < v.records) × (w ≡ popping_view v e) };
 }
 
 impl Lesson<Envelope, RequestView> for PopEnvelope {

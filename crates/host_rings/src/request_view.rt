@@ -13,6 +13,7 @@ pub struct RequestView {
     pub pushed: LinkedList<Envelope>,
     /// What it has taken.
     pub taken: LinkedList<Envelope>,
-    /// What it was told of the other end: for the sender what was taken, for all others what was pushed.
+    /// What it was told of the other end: for the sender what was taken, for all others what was
+    /// pushed.
     pub heard: LinkedList<Envelope>,
 }

@@ -17,8 +17,8 @@ use std::alloc::Global;
 use std::marker::Brand;
 use std::sync::Arc;
 
-/// An empty ring with room for `depth` envelopes at once, for at most `records` of them in all. It has `Oom` for an
-/// answer only for want of memory.
+/// An empty ring with room for `depth` envelopes at once, for at most `records` of them in all. It
+/// has `Oom` for an answer only for want of memory.
 pub fn request_ring(alloc: Global, depth: u32, records: u32) -> Result<(Sender, Taker), Oom>
     requires depth { (1 ≤ depth) × (depth ≤ 128) }
     ensures ring { IfOk result (λ ends. ends.0.ring ≡ ends.1.ring) }

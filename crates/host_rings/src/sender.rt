@@ -13,7 +13,8 @@ use std::alloc::Global;
 use std::marker::Model;
 use std::sync::{Arc, Wait};
 
-/// The one end of a request ring that pushes. Contracts see which ring it is of, and what it has pushed.
+/// The one end of a request ring that pushes. Contracts see which ring it is of, and what it has
+/// pushed.
 #[derive(Drop)]
 pub struct Sender {
     pub(crate) queue: Arc<RequestQueue, Global>,
@@ -32,7 +33,8 @@ impl Model for Sender {
 }
 
 impl Sender {
-    /// Adds an envelope at the back, or gives it back and changes nothing; then at least as many as the ring is deep were pushed.
+    /// Adds an envelope at the back, or gives it back and changes nothing; then at least as many as
+    /// the ring is deep were pushed.
     pub fn push<R: Wait>(&mut self, rt: &R, envelope: Envelope) -> Result<(), Full<Envelope>>
         requires index { envelope.index ≡ length self.old.pushed }
         requires room { envelope.index < self.old.records }

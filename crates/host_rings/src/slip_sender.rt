@@ -12,7 +12,8 @@ use std::alloc::Global;
 use std::marker::Model;
 use std::sync::{Arc, Wait};
 
-/// An end of an answer ring that pushes. Contracts see which ring it is of, its number, and what it has pushed.
+/// An end of an answer ring that pushes. Contracts see which ring it is of, its number, and what it
+/// has pushed.
 #[derive(Drop)]
 pub struct SlipSender {
     pub(crate) queue: Arc<AnswerQueue, Global>,
@@ -31,8 +32,8 @@ impl Model for SlipSender {
 }
 
 impl SlipSender {
-    /// Adds a slip at the back, or gives it back and changes nothing. A sender knows its own slips alone, so it can't tell that
-    /// the ring was full.
+    /// Adds a slip at the back, or gives it back and changes nothing. A sender knows its own slips
+    /// alone, so it can't tell that the ring was full.
     pub fn push<R: Wait>(&mut self, rt: &R, slip: Slip) -> Result<(), Full<Slip>>
         ensures { MatchResult result
             (λ _. self.new ≡ with_slip self.old slip)

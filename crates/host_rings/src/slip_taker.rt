@@ -1,6 +1,7 @@
 //! The end of an answer ring that pops.
 ghost use Rattle.std.specs.Prelude.{◌≡◌, ◌+◌, [], IfOk, MatchOption};
-ghost use Rattle.host_rings.specs.AnswerEnds.{slip_sender_of, slip_taker_of, with_slip_taken, FoundNone};
+ghost use Rattle.host_rings.specs.AnswerEnds.{slip_sender_of, slip_taker_of, with_slip_taken};
+ghost use Rattle.host_rings.specs.AnswerEnds.{FoundNoSlip};
 
 use crate::answer_rule::AnswerQueue;
 use crate::answer_steps::{MakeSender, PopSlip};
@@ -13,8 +14,8 @@ use std::alloc::Global;
 use std::marker::Model;
 use std::sync::{Arc, Wait};
 
-/// The one end of an answer ring that pops. Contracts see which ring it is of, how many senders that has, and what was
-/// taken.
+/// The one end of an answer ring that pops. Contracts see which ring it is of, how many senders
+/// that has, and what was taken.
 #[derive(Drop)]
 pub struct SlipTaker {
     pub(crate) queue: Arc<AnswerQueue, Global>,
@@ -33,11 +34,11 @@ impl Model for SlipTaker {
 }
 
 impl SlipTaker {
-    /// Takes the slip at the front. With `None` nothing has changed. This taker is told of no push, so it can't tell that the
-    /// ring was empty.
+    /// Takes the slip at the front. With `None` nothing has changed. This taker is told of no push,
+    /// so it can't tell that the ring was empty.
     pub fn pop<R: Wait>(&mut self, rt: &R) -> Option<Slip>
         ensures { MatchOption result
-            ((self.new ≡ self.old) × FoundNone self.old)
+            ((self.new ≡ self.old) × FoundNoSlip self.old)
             (λ s. self.new ≡ with_slip_taken self.old s) }
     {
         self.queue.pop_as::<PopSlip, R>(rt, &mut self.pass)
@@ -45,8 +46,11 @@ impl SlipTaker {
 
     // The next sender.
     pub(crate) fn make_sender(&mut self) -> Result<SlipSender, Oom>
-        ensures { IfOk result (λ s. (s ≡ slip_sender_of self.old.ring self.old.depth self.old.senders [])
-            × (self.new ≡ slip_taker_of self.old.ring self.old.depth (self.old.senders + 1) self.old.taken self.old.heard)) }
+        ensures { IfOk result (λ s.
+            (s ≡ slip_sender_of self.old.ring self.old.depth self.old.senders [])
+            × (self.new
+            ≡ slip_taker_of self.old.ring self.old.depth (self.old.senders + 1) self.old.taken
+            self.old.heard)) }
     {
         let Ok(queue) = Arc::try_clone(&self.queue) else {
             return Err(Oom);

@@ -13,8 +13,8 @@ use std::alloc::Global;
 use std::marker::Model;
 use std::sync::{Arc, Wait};
 
-/// The one end of a request ring that pops. Contracts see which ring it is of, what it has taken, and what it was told
-/// was pushed.
+/// The one end of a request ring that pops. Contracts see which ring it is of, what it has taken,
+/// and what it was told was pushed.
 #[derive(Drop)]
 pub struct Taker {
     pub(crate) queue: Arc<RequestQueue, Global>,
@@ -33,13 +33,14 @@ impl Model for Taker {
 }
 
 impl Taker {
-    /// Takes the envelope at the front. With `None` nothing has changed, and all that this taker was told of before the
-    /// call was taken before it.
+    /// Takes the envelope at the front. With `None` nothing has changed, and all that this taker
+    /// was told of before the call was taken before it.
     pub fn pop<R: Wait>(&mut self, rt: &R) -> Option<Envelope>
         ensures told { IfNone result (IsPrefix self.old.heard self.old.taken) }
-        ensures step { MatchOption result
-            ((self.new ≡ self.old) × FoundEmpty self.old)
-            (λ e. (e.index ≡ length self.old.taken) × (e.index < self.old.records) × (self.new ≡ with_taken self.old e)) }
+        ensures step { MatchOption result ((self.new ≡ self.old) × FoundEmpty self.old)
+            (λ e.
+            (e.index ≡ length self.old.taken) × (e.index < self.old.records)
+            × (self.new ≡ with_taken self.old e)) }
     {
         self.queue.pop_as::<PopEnvelope, R>(rt, &mut self.pass)
     }

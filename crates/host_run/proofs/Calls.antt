@@ -1,11 +1,8 @@
 -- What a call leaves, in terms of the words that ask for it.
 use Rattle.std.proofs.Common.{◌≢◌, Option, Some, None, refl}
 use Rattle.std.specs.Prelude.{IfNone}
-use Rattle.host_report.specs.declared.report.Report.{Report}
-use Rattle.host_run.specs.Listed.{ListLeaves, Listing}
-use Rattle.host_run.specs.Refusals.{refusal_line}
-use Rattle.host_run.specs.Writes.{PutsText}
-use Rattle.host_run.specs.declared.status.RunStatus.{RunStatus}
+use Rattle.host_report.specs.{Report}
+use Rattle.host_run.specs.{ListLeaves, Listing, refusal_line, PutsText, RunStatus}
 use Rattle.host_run.specs.declared.status.RunStatus.TheVariants as status
 use Rattle.host_start.specs.declared.error.Limit.TheVariants as limit
 

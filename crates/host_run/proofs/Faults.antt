@@ -1,21 +1,13 @@
 -- How faulted steps show in the count of the disk, and in the status.
 use Rattle.std.proofs.Common.{◌≡◌, inl, inr, ℕ, ◌+◌, ◌≤◌, zero, suc, Bool, true, false, cond, List, [], ◌∷◌, ◌++◌, Some, refl, ◌∙◌, ap, arith}
 use Rattle.std.proofs.lemmas.List.Sums.{sum_by-append}
-use Rattle.host_device.specs.Faults.{RoseBy, faulted_count}
-use Rattle.host_io.specs.Causes.{Rose}
-use Rattle.host_model.specs.declared.step.Step.{Step}
-use Rattle.host_report.specs.Lawful.{closing_flush, closing_steps}
-use Rattle.host_report.specs.declared.closing.Closing.{Closing}
-use Rattle.host_report.specs.declared.closing.Closing.TheVariants.{Good, Fault, Cut, NoMemory}
-use Rattle.host_report.specs.declared.report.Report.{Report}
-use Rattle.host_run.specs.Ending.{IsComplete, IsDone}
+use Rattle.host_device.specs.{RoseBy, faulted_count}
+use Rattle.host_io.specs.{Rose}
+use Rattle.host_model.specs.{Step}
+use Rattle.host_report.specs.{closing_flush, closing_steps, Closing, Good, Fault, Cut, NoMemory, Report}
+use Rattle.host_run.specs.{IsComplete, IsDoneOrOutOfMemory, SinkFaulted, HasRunReport, played_status, RunStatus, SinkFault}
 use Rattle.host_run.specs.Scene.{Scene}
-use Rattle.host_run.specs.Seen.{SinkFaulted}
-use Rattle.host_run.specs.Statuses.{HasRunReport, played_status}
-use Rattle.host_run.specs.declared.status.RunStatus.{RunStatus}
-use Rattle.host_run.specs.declared.status.RunStatus.TheVariants.{SinkFault}
-use Rattle.host_worker.specs.Ends.{EndsState}
-use Rattle.host_worker.specs.Gathered.{IsGathered}
+use Rattle.host_worker.specs.{EndsState, IsReportGathered}
 
 -- a count that rose by one or more rose
 pub rose_by : (n before now : ℕ) → RoseBy n before now → 1 ≤ n → Rose before now
@@ -42,14 +34,14 @@ faulted_count-append : (a b : List Step) → faulted_count (a ++ b) ≡ faulted_
 faulted_count-append a b = sum_by-append (λ (s : Step). cond s.faulted 1 0) a b
 
 -- a closing flush that failed is a faulted step
-closing_faulted : (ends : EndsState) (report : Report) → IsGathered ends report → report.closing ≡ Fault → 1 ≤ faulted_count report.steps.items
+closing_faulted : (ends : EndsState) (report : Report) → IsReportGathered ends report → report.closing ≡ Fault → 1 ≤ faulted_count report.steps.items
 closing_faulted ends report gathered fault =
     let steps : report.steps.items ≡ ends.story ++ closing_flush true ∷ [] = gathered.steps_are ∙ ap (λ (c : Closing). ends.story ++ closing_steps c) fault in
     let count = ap faulted_count steps ∙ faulted_count-append ends.story (closing_flush true ∷ []) in
     omega (arith, count)
 
 -- where neither disk nor sink failed, the run is done, or there was no memory for its closing flush
-done : (closing : Closing) (was_written : Bool) (status : RunStatus) → status ≡ played_status closing was_written → ¬ (closing ≡ Fault) → ¬ (status ≡ SinkFault) → IsDone status
+done : (closing : Closing) (was_written : Bool) (status : RunStatus) → status ≡ played_status closing was_written → ¬ (closing ≡ Fault) → ¬ (status ≡ SinkFault) → IsDoneOrOutOfMemory status
 done Good true status is good written = inl is
 done Good false status is good written = absurd (written is)
 done Cut true status is good written = inl is
@@ -57,7 +49,7 @@ done Cut false status is good written = absurd (written is)
 done Fault was_written status is good written = absurd (good refl)
 done NoMemory was_written status is good written = inr is
 
-pub complete : (scene : Scene) (ends : EndsState) (report : Report) (status : RunStatus) → IsGathered ends report → RoseBy (faulted_count report.steps.items) scene.disk.counts.faults scene.new_disk.counts.faults → HasRunReport status (Some report)
+pub complete : (scene : Scene) (ends : EndsState) (report : Report) (status : RunStatus) → IsReportGathered ends report → RoseBy (faulted_count report.steps.items) scene.disk.counts.faults scene.new_disk.counts.faults → HasRunReport status (Some report)
     → (status ≡ SinkFault → SinkFaulted scene.sink scene.new_sink)
     → IsComplete scene status report
 complete scene ends report status gathered rose ended sink_fault =

@@ -1,26 +1,17 @@
 -- What a run leaves, from what its stages left.
 use Rattle.std.proofs.Common.{◌≡◌, ◌⊎◌, inl, refl, subst, sym, ℕ, Option, Some, None, List, arith}
 use Rattle.std.specs.Prelude.{IfSome}
-use Rattle.host_report.specs.declared.report.Report.{Report}
-use Rattle.host_run.specs.Ending.{IsItsScript, IsNoScript, IsNoStart, SaysNoScript}
-use Rattle.host_run.specs.Played.{IsPlayOf, LeavesUnplayed}
-use Rattle.host_run.specs.Refusals.{start_status}
-use Rattle.host_run.specs.Runs.{IsRunOn, RunLeaves}
-use Rattle.host_run.specs.Scene.{Scene, site_of}
-use Rattle.host_run.specs.Seen.{DiskFaulted, DiskSeen, SinkFaulted, SourceFaulted, SourceSeen, WasRead}
-use Rattle.host_run.specs.Statuses.{HasRunReport}
-use Rattle.host_run.specs.Words.{Making, Playing, text_of}
-use Rattle.host_run.specs.Writes.{TellsRun}
-use Rattle.host_run.specs.declared.status.RunStatus.{RunStatus}
-use Rattle.host_run.specs.declared.status.RunStatus.TheVariants.{OutOfMemory, SinkFault}
-use Rattle.host_start.specs.declared.error.StartError.{StartError}
+use Rattle.host_report.specs.{Report}
+use Rattle.host_run.specs.{IsItsScript, IsNoScript, IsNoStart, SaysNoScript, IsPlayOf, LeavesUnplayed, start_status, IsRunOn, RunLeaves, site_of, DiskFaulted, DiskSeen, SinkFaulted, SourceFaulted, SourceSeen, WasRead, HasRunReport, Making, Playing, text_of, TellsRun, RunStatus, OutOfMemory, SinkFault}
+use Rattle.host_run.specs.Scene.{Scene}
+use Rattle.host_start.specs.{StartError}
 use Rattle.host_start.specs.declared.error.StartError.TheVariants as error
-use Rattle.script_model.specs.Plans.{SessionPlan}
+use Rattle.script_model.specs.{PlannedSession}
 use Rattle.host_run.proofs.Faults.{complete}
 use Rattle.host_run.proofs.Playable.{refused_playable}
 
 -- a script that was played and told
-pub played_leaves : (scene : Scene) (plans : List SessionPlan) (report : Report) (status : RunStatus) → IsItsScript scene plans → IsPlayOf plans scene.playing.workers scene.playing.depth report → IsRunOn (site_of scene) scene.playing.cut report
+pub played_leaves : (scene : Scene) (plans : List PlannedSession) (report : Report) (status : RunStatus) → IsItsScript scene plans → IsPlayOf plans scene.playing.workers scene.playing.depth report → IsRunOn (site_of scene) scene.playing.cut report
     → HasRunReport status (Some report) → (status ≡ SinkFault → SinkFaulted scene.sink scene.new_sink) → TellsRun scene.sink scene.new_sink (text_of scene.playing.told report) status
     → RunLeaves scene status (Some report)
 played_leaves scene plans report status script played ran ended sink_fault told =
@@ -33,6 +24,7 @@ played_leaves scene plans report status script played ran ended sink_fault told 
         lawful = ran.lawful;
         outlives = ran.outlives;
         keeps = ran.keeps;
+        forced = ran.forced;
       };
       refused = tt;
       playable = λ playable none. whole.done none.disk none.sink;

@@ -3,16 +3,12 @@ use Rattle.std.proofs.Common.{◌≡◌, ℕ, ◌≤◌, Bool, true, false, cond
 use Rattle.std.specs.Prelude.{IfOk, IfSome, ◌&&◌, nat_le, unwrap_or, option_map}
 use Rattle.std.specs.Str.{bytes_eq}
 use Rattle.std.proofs.lemmas.Bool.{leb-true}
-use Rattle.host_words.specs.Commands.{Meaning, block_in, command_named, command_of, depth_in, list_at, list_meaning, list_options, lists, load, load_at, load_meaning, load_options, make, make_at, make_meaning, make_options, meaning_of, named, of_command, requests_of, run, run_at, run_meaning, run_options, seed_of, sessions_of, under_names, workers_in}
-use Rattle.host_words.specs.Given.{Given, Options, Word, given_by, words_name}
-use Rattle.host_words.specs.Numbers.{decimal, in_range, is_set, number, optional}
-use Rattle.host_words.specs.Steps.{◌>>=◌}
-use Rattle.host_words.specs.declared.command.Command.{Command}
-use Rattle.host_words.specs.declared.words_error.WordsError.{WordsError}
+use Rattle.host_words.specs.{Meaning, block_in, command_named, command_of, depth_in, list_at, list_meaning, list_options, lists, load, load_at, load_meaning, load_options, make, make_at, make_meaning, make_options, meaning_of, named, of_command, requests_word, run, run_at, run_meaning, run_options, seed_of, sessions_of, under_names, workers_in, Options, Word, given_by, words_name, decimal, word_in_range, is_set, number, optional, ◌>>=◌, Command, WordsError}
+use Rattle.host_words.specs.Given.{Given}
 use Rattle.host_words.specs.declared.words_error.WordsError.TheVariants as error
-use Rattle.host_run.specs.Words.{Asks, HasNumbers}
+use Rattle.host_run.specs.{Asks, HasNumbers}
 
-bounded : (low high : ℕ) (o : Option ℕ) → IfSome (in_range low high o) (λ n. (low ≤ n) × (n ≤ high))
+bounded : (low high : ℕ) (o : Option ℕ) → IfSome (word_in_range low high o) (λ n. (low ≤ n) × (n ≤ high))
 bounded low high None = tt
 bounded low high (Some n) = go (nat_le low n) (nat_le n high) refl refl
   where
@@ -57,7 +53,7 @@ make_has [] = tt
 make_has (a ∷ []) = tt
 make_has (a ∷ b ∷ []) = tt
 make_has (a ∷ b ∷ c ∷ d ∷ words) = tt
-make_has (a ∷ b ∷ c ∷ []) = go (seed_of a) (sessions_of b) (requests_of c) (number_bounded 0 2147483647 a) (number_bounded 1 16 b) (number_bounded 1 2048 c)
+make_has (a ∷ b ∷ c ∷ []) = go (seed_of a) (sessions_of b) (requests_word c) (number_bounded 0 2147483647 a) (number_bounded 1 16 b) (number_bounded 1 2048 c)
   where
     go : (s t u : Option ℕ) → IfSome s (λ n. (0 ≤ n) × (n ≤ 2147483647)) → IfSome t (λ n. (1 ≤ n) × (n ≤ 16)) → IfSome u (λ n. (1 ≤ n) × (n ≤ 2048))
         → IfSome (s >>= (λ seed. t >>= (λ sessions. u >>= (λ requests. Some (make seed sessions requests))))) HasNumbers
@@ -98,7 +94,7 @@ load_has under (image ∷ []) = tt
 load_has under (image ∷ a ∷ []) = tt
 load_has under (image ∷ a ∷ b ∷ []) = tt
 load_has under (image ∷ a ∷ b ∷ c ∷ d ∷ words) = tt
-load_has under (image ∷ a ∷ b ∷ c ∷ []) = go (named image) (seed_of a) (sessions_of b) (requests_of c) (block_in under) (workers_in under) (depth_in under)
+load_has under (image ∷ a ∷ b ∷ c ∷ []) = go (named image) (seed_of a) (sessions_of b) (requests_word c) (block_in under) (workers_in under) (depth_in under)
     (number_bounded 0 2147483647 a) (number_bounded 1 16 b) (number_bounded 1 2048 c) (workers_bounded under) (depth_bounded under)
   where
     go : (i : Option Word) (s t u b : Option ℕ) (w d : Option (Option ℕ))

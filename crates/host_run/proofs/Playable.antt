@@ -3,23 +3,14 @@ use Rattle.std.proofs.Common.{◌≡◌, ◌⊎◌, inl, inr, ℕ, ◌<◌, ◌�
 use Rattle.std.specs.Prelude.{All}
 use Rattle.std.proofs.lemmas.List.{length-append}
 use Rattle.host_gpt.proofs.LawLemmas.{one_table, table_excludes}
-use Rattle.host_part.specs.Served.{Layout}
-use Rattle.host_gpt.specs.declared.which.Which.{Which}
-use Rattle.host_start.specs.Images.{IsLayoutOn, IsServedPart, LacksPart, parts_of}
-use Rattle.host_start.specs.Refusals.{IsAfterScript, IsOfScript}
+use Rattle.host_part.specs.{Layout}
+use Rattle.host_gpt.specs.{Which}
+use Rattle.host_start.specs.{IsLayoutOn, IsServedPart, LacksPart, parts_of, IsAfterScript, IsOfScript, StartError}
 use Rattle.host_start.specs.declared.error.Limit.TheVariants as limit
-use Rattle.host_start.specs.declared.error.StartError.{StartError}
 use Rattle.host_start.specs.declared.error.StartError.TheVariants as error
-use Rattle.script_model.specs.Limit.{limit_of}
-use Rattle.script_model.specs.Plans.{SessionPlan}
-use Rattle.script_model.specs.Script.{script_of}
-use Rattle.script_model.specs.declared.parse_error.ParseError.TheVariants.{Bad}
-use Rattle.host_run.specs.Ending.{IsDone, IsNoScript, IsNoStart, IsPlayable, IsScriptOf, SaysNoScript, StandsThere}
-use Rattle.host_run.specs.Refusals.{start_status}
-use Rattle.host_run.specs.Scene.{NoneFaulted, Scene, image_at, site_of}
-use Rattle.host_run.specs.Seen.{DiskFaulted, SourceFaulted, SourceSeen}
-use Rattle.host_run.specs.Words.{Making}
-use Rattle.host_run.specs.declared.status.RunStatus.{RunStatus}
+use Rattle.script_model.specs.{limit_of, PlannedSession, script_of, Bad}
+use Rattle.host_run.specs.{IsDoneOrOutOfMemory, IsNoScript, IsNoStart, IsScenePlayable, IsScriptOf, SaysNoScript, StandsThere, start_status, NoneFaulted, image_at, site_of, DiskFaulted, SourceFaulted, SourceSeen, Making, RunStatus}
+use Rattle.host_run.specs.Scene.{Scene}
 
 -- ---- the script
 
@@ -28,7 +19,7 @@ too_long : (left new_left taken : List ℕ) → left ≡ taken ++ new_left → 1
 too_long left new_left taken is many few = absurd (let n = ap (λ (l : List ℕ). length l) is ∙ length-append taken new_left in omega (arith, n, many, few))
 
 -- where there is a script, there is none only for want of memory or for a source that failed
-no_script : (size : ℕ) (making : Option Making) (before after : SourceSeen) (plans : List SessionPlan) (e : StartError) → StandsThere size making before plans → IsOfScript e → SaysNoScript size making before after e → (e ≡ error.Source) ⊎ (e ≡ error.Oom)
+no_script : (size : ℕ) (making : Option Making) (before after : SourceSeen) (plans : List PlannedSession) (e : StartError) → StandsThere size making before plans → IsOfScript e → SaysNoScript size making before after e → (e ≡ error.Source) ⊎ (e ≡ error.Oom)
 no_script size making before after plans error.Source stands cause says = inl refl
 no_script size making before after plans error.Oom stands cause says = inr refl
 no_script size None before after plans (error.BadScript line word) stands cause says =
@@ -65,7 +56,7 @@ no_script size making before after plans error.NoTable stands cause says = absur
 no_script size making before after plans (error.NoPart session part) stands cause says = absurd cause
 
 -- a script that was read or made is the one that stands there
-same_plans : (size : ℕ) (making : Option Making) (before after : SourceSeen) (plans its : List SessionPlan) → StandsThere size making before plans → IsScriptOf size making before after its → its ≡ plans
+same_plans : (size : ℕ) (making : Option Making) (before after : SourceSeen) (plans its : List PlannedSession) → StandsThere size making before plans → IsScriptOf size making before after its → its ≡ plans
 same_plans size None before after plans its stands script =
     let meant : script_of before.left ≡ Ok its = (script stands.0).is.meant in
     let good : script_of before.left ≡ Ok plans = stands.1.meant in cc
@@ -91,7 +82,7 @@ lacks_none image which layout parts session part on served lacks =
     (at_middle (IsServedPart layout) first.before part first.after (subst (All (IsServedPart layout)) first.is served)))
 
 -- where what is asked for can be played, it is refused after the script only for want of memory or for a disk that failed
-no_start : (scene : Scene) (e : StartError) (cause : IsAfterScript e) (playable : IsPlayable scene) → (because : IsNoStart scene e) → (e ≡ error.Disk) ⊎ (e ≡ error.Oom)
+no_start : (scene : Scene) (e : StartError) (cause : IsAfterScript e) (playable : IsScenePlayable scene) → (because : IsNoStart scene e) → (e ≡ error.Disk) ⊎ (e ≡ error.Oom)
 no_start scene error.Disk cause playable because = inl refl
 no_start scene error.Oom cause playable because = inr refl
 no_start scene error.Source cause playable because = absurd cause
@@ -112,18 +103,18 @@ no_start scene error.NoTable cause playable because =
 no_start scene (error.NoPart session part) cause playable because =
     let same = same_plans scene.playing.size scene.playing.making scene.source scene.new_source playable.plans because.plans playable.script because.script in
     absurd (lacks_none (image_at (site_of scene)) playable.which playable.layout (parts_of playable.plans) session part playable.on_image playable.served
-    (subst (λ (plans : List SessionPlan). LacksPart (image_at (site_of scene)) (parts_of plans) session part) same (because.says.told playable.disk_tells).1))
+    (subst (λ (plans : List PlannedSession). LacksPart (image_at (site_of scene)) (parts_of plans) session part) same (because.says.told playable.disk_tells).1))
 
 -- ---- the end
 
 -- where what is asked for can be played, it is refused only for want of memory or where source or disk failed
-why : (scene : Scene) (e : StartError) → IsPlayable scene → IsNoScript scene e ⊎ IsNoStart scene e → (e ≡ error.Source) ⊎ ((e ≡ error.Disk) ⊎ (e ≡ error.Oom))
+why : (scene : Scene) (e : StartError) → IsScenePlayable scene → IsNoScript scene e ⊎ IsNoStart scene e → (e ≡ error.Source) ⊎ ((e ≡ error.Disk) ⊎ (e ≡ error.Oom))
 why scene e playable (inl because) =
     elim (no_script scene.playing.size scene.playing.making scene.source scene.new_source playable.plans e playable.script because.cause because.says) [ inl source ↦ inl source | inr memory ↦ inr (inr memory) ]
 why scene e playable (inr because) = inr (no_start scene e because.cause playable because)
 
 pub refused_playable : (scene : Scene) (status : RunStatus) (e : StartError) → status ≡ start_status e → IsNoScript scene e ⊎ IsNoStart scene e → (e ≡ error.Source → SourceFaulted scene.source scene.new_source) → (e ≡ error.Disk → DiskFaulted scene.disk scene.new_disk)
-    → IsPlayable scene → NoneFaulted scene → IsDone status
+    → IsScenePlayable scene → NoneFaulted scene → IsDoneOrOutOfMemory status
 refused_playable scene status e is because source_fault disk_fault playable none =
     elim (why scene e playable because) [
       | inl source ↦ absurd (none.source (source_fault source))

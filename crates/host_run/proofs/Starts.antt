@@ -4,23 +4,19 @@ use Rattle.std.specs.Prelude.{◌↔◌, All, IfOk, IfSome, IsSome}
 use Rattle.std.proofs.lemmas.List.{length-map}
 use Rattle.std.proofs.lemmas.List.Elements.{All-map}
 use Rattle.host_block.specs.declared.range.Range.{Range}
-use Rattle.host_io.specs.Flat.{image_of}
-use Rattle.host_io.specs.MemDisk.{opening_of}
+use Rattle.host_io.specs.{image_of, opening_of}
 use Rattle.host_io.specs.declared.mem_disk.MemDisk.{MemDisk}
-use Rattle.host_run.specs.Scene.{opening_image}
-use Rattle.host_start.specs.Copies.{image_in}
-use Rattle.host_start.specs.Images.{parts_of}
-use Rattle.host_start.specs.declared.copy.ImageCopy.{ImageCopy}
-use Rattle.host_start.specs.declared.places.Place.{Place}
-use Rattle.script_model.specs.Plans.{SessionPlan}
+use Rattle.host_run.specs.{opening_image}
+use Rattle.host_start.specs.{image_in, parts_of, ImageCopy, Place}
+use Rattle.script_model.specs.{PlannedSession}
 
 -- the ranges of places that lie in the image lie there
 pub ranges_inside : (blocks : ℕ) (places : List Place) → All (λ (p : Place). p.range.first + p.range.count ≤ blocks) places → All (λ (r : Range). r.first + r.count ≤ blocks) (map (λ (p : Place). p.range) places)
 ranges_inside blocks places inside = All-map (λ (r : Range). r.first + r.count ≤ blocks) (λ (p : Place). p.range) places inside
 
 -- there are as many places as sessions
-pub as_many : (plans : List SessionPlan) (places : List Place) → map (λ (p : Place). p.part) places ≡ parts_of plans → length places ≡ length plans
-as_many plans places named = sym (length-map places (λ (p : Place). p.part)) ∙ (ap (λ (l : List ℕ). length l) named ∙ length-map plans (λ (plan : SessionPlan). plan.part))
+pub as_many : (plans : List PlannedSession) (places : List Place) → map (λ (p : Place). p.part) places ≡ parts_of plans → length places ≡ length plans
+as_many plans places named = sym (length-map places (λ (p : Place). p.part)) ∙ (ap (λ (l : List ℕ). length l) named ∙ length-map plans (λ (plan : PlannedSession). plan.part))
 
 -- three facts of a success give a fourth
 pub on_three : {T E : Type 0} (r : Result T E) (P Q R S : T → Type 0) → ((t : T) → P t → Q t → R t → S t) → IfOk r P → IfOk r Q → IfOk r R → IfOk r S

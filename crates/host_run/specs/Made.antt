@@ -22,7 +22,10 @@ IsMakeStatus status = IsPutStatus status
 abbrev pub made_text : Making → List ℕ
 made_text making = script_text (plans_made making)
 
--- Unless memory was refused, the text of the script was put, up to a failure of the sink; status 0 says that it was put whole.
-pub record PutsScript (before after : SinkSeen) (making : Making) (status : RunStatus) : Type 0 where
+-- Unless memory was refused, the text of the script was put, up to a failure of the sink; status 0
+-- says that it was put whole.
+pub record PutsScript (before after : SinkSeen) (making : Making) (status : RunStatus)
+    : Type 0 where
   pub puts : status ≢ OutOfMemory → PutsText before after (made_text making)
-  pub done : status ≡ Done → IsTrue before.tells → after.appended ≡ before.appended ++ made_text making
+  pub done : status ≡ Done → IsTrue before.tells
+      → after.appended ≡ before.appended ++ made_text making

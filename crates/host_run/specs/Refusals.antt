@@ -39,10 +39,13 @@ limit_word limit.Table = codes "table"
 abbrev pub refusal_line : RunStatus → List ℕ
 refusal_line status.BadWords = codes "refused 2 words\n"
 refusal_line status.NoTable = codes "refused 3 no table\n"
-refusal_line (status.BadScript n cause) = line (codes "refused" ∷ codes "4" ∷ codes "line" ∷ decimal n ∷ cause_word cause ∷ [])
+refusal_line (status.BadScript n cause) =
+    line (codes "refused" ∷ codes "4" ∷ codes "line" ∷ decimal n ∷ cause_word cause ∷ [])
 refusal_line status.DiskFault = codes "refused 5 disk\n"
 refusal_line status.ScriptFault = codes "refused 6 script unread\n"
 refusal_line status.OutOfMemory = codes "refused 8 memory\n"
 refusal_line (status.TooLarge what) = codes "refused 9 " ++ (limit_word what ++ codes "\n")
-refusal_line (status.NoPart session part) = line (codes "refused" ∷ codes "10" ∷ codes "session" ∷ decimal session ∷ codes "part" ∷ decimal part ∷ [])
+refusal_line (status.NoPart session part) =
+    line (codes "refused" ∷ codes "10" ∷ codes "session" ∷ decimal session ∷ codes "part"
+    ∷ decimal part ∷ [])
 refusal_line _ = []

@@ -4,10 +4,12 @@ use Rattle.host_block.specs.Disk.{DiskState}
 use Rattle.host_io.specs.Flat.{image_of}
 use Rattle.host_io.specs.MemDisk.{opening_of, state_of}
 use Rattle.host_io.specs.declared.mem_disk.MemDisk.{MemDisk}
-use Rattle.host_run.specs.Seen.{DiskFaulted, DiskSeen, SinkFaulted, SinkSeen, SourceFaulted, SourceSeen}
+use Rattle.host_run.specs.Seen.{DiskFaulted, DiskSeen, SinkFaulted, SinkSeen, SourceFaulted}
+use Rattle.host_run.specs.Seen.{SourceSeen}
 use Rattle.host_run.specs.Words.{Playing}
 
--- What the words ask for; source, disk and sink as they were and as they are left; and the copy that is handed out.
+-- What the words ask for; source, disk and sink as they were and as they are left; and the copy
+-- that is handed out.
 pub record Scene : Type 0 where
   pub playing : Playing
   pub source : SourceSeen
@@ -26,8 +28,8 @@ pub record NoneFaulted (scene : Scene) : Type 0 where
 
 -- ---- the disks
 
--- Where a script is played: the image's name and the size of its blocks, whether it is played on a copy, the disk as it was
--- handed in and as it is left, and the copy.
+-- Where a script is played: the image's name and the size of its blocks, whether it is played on a
+-- copy, the disk as it was handed in and as it is left, and the copy.
 pub record Site : Type 0 where
   pub name : List ℕ
   pub size : ℕ
@@ -50,7 +52,8 @@ site_of scene = record {
 abbrev pub image_at : Site → List (List ℕ)
 image_at site = site.disk.image_named site.name site.size
 
--- A disk that was played on: whether it tells, the image that it held when the run began, and its state now.
+-- A disk that was played on: whether it tells, the image that it held when the run began, and its
+-- state now.
 pub record PlayedDisk : Type 0 where
   pub tells : Bool
   pub image : List (List ℕ)
@@ -62,9 +65,12 @@ opening_image size copy = image_of size (opening_of copy)
 
 -- it is the copy where there is one, else the disk that was handed in
 abbrev pub copy_or : ℕ → Option MemDisk → PlayedDisk → PlayedDisk
-copy_or size (Some copy) handed_in = record { tells = true; image = opening_image size copy; state = state_of copy }
+copy_or size (Some copy) handed_in =
+    record { tells = true; image = opening_image size copy; state = state_of copy }
 copy_or size None handed_in = handed_in
 
 -- the disk that was played on
 abbrev pub played_disk : Site → PlayedDisk
-played_disk site = copy_or site.size site.copy (record { tells = site.disk.shape.tells; image = image_at site; state = site.new_disk.state })
+played_disk site =
+    copy_or site.size site.copy (record
+    { tells = site.disk.shape.tells; image = image_at site; state = site.new_disk.state })

@@ -10,8 +10,9 @@ use Rattle.host_io.specs.declared.source.Source as source
 
 -- ---- a disk
 
--- Whether it tells its content, with what is attached; the blocks of an image of this name and block size; its durable blocks and
--- pending writes; how often it has failed and was called; whether it never fails.
+-- Whether it tells its content, with what is attached; the blocks of an image of this name and
+-- block size; its durable blocks and pending writes; how often it has failed and was called;
+-- whether it never fails.
 pub record DiskSeen : Type 0 where
   pub shape : Shape
   pub image_named : List ℕ → ℕ → List (List ℕ)
@@ -20,7 +21,14 @@ pub record DiskSeen : Type 0 where
   pub never_fails : Bool
 
 abbrev pub disk_seen : {D : Type 0} → disk.Ghosts D → D → DiskSeen
-disk_seen g d = record { shape = g.shape d; image_named = g.image_named d; state = g.state d; counts = g.counts d; never_fails = g.never_fails d }
+disk_seen g d =
+    record {
+      shape = g.shape d;
+      image_named = g.image_named d;
+      state = g.state d;
+      counts = g.counts d;
+      never_fails = g.never_fails d;
+    }
 
 -- its count of faults rose
 abbrev pub DiskFaulted : DiskSeen → DiskSeen → Type 0

@@ -10,25 +10,29 @@ use Rattle.host_report.specs.declared.closing.Closing.{Closing}
 use Rattle.host_report.specs.declared.closing.Closing.TheVariants.{Good, Fault, Cut, NoMemory}
 use Rattle.host_report.specs.declared.report.Report.{Report}
 use Rattle.host_run.specs.declared.status.RunStatus.{RunStatus}
-use Rattle.host_run.specs.declared.status.RunStatus.TheVariants.{Done, ClosingFault, BadWords, NoTable, BadScript, DiskFault, ScriptFault, SinkFault, OutOfMemory, TooLarge, NoPart}
+use Rattle.host_run.specs.declared.status.RunStatus.TheVariants.{Done, ClosingFault, BadWords}
+use Rattle.host_run.specs.declared.status.RunStatus.TheVariants.{NoTable, BadScript, DiskFault}
+use Rattle.host_run.specs.declared.status.RunStatus.TheVariants.{ScriptFault, SinkFault}
+use Rattle.host_run.specs.declared.status.RunStatus.TheVariants.{OutOfMemory, TooLarge, NoPart}
 use Rattle.host_worker.specs.Gathered.{reported}
 use Rattle.host_worker.specs.declared.gathering.Served.{Served}
 
 -- the number of a status
-abbrev pub number_of : RunStatus → ℕ
-number_of Done = 0
-number_of ClosingFault = 1
-number_of BadWords = 2
-number_of NoTable = 3
-number_of (BadScript line cause) = 4
-number_of DiskFault = 5
-number_of ScriptFault = 6
-number_of SinkFault = 7
-number_of OutOfMemory = 8
-number_of (TooLarge what) = 9
-number_of (NoPart session part) = 10
+abbrev pub run_status_number : RunStatus → ℕ
+run_status_number Done = 0
+run_status_number ClosingFault = 1
+run_status_number BadWords = 2
+run_status_number NoTable = 3
+run_status_number (BadScript line cause) = 4
+run_status_number DiskFault = 5
+run_status_number ScriptFault = 6
+run_status_number SinkFault = 7
+run_status_number OutOfMemory = 8
+run_status_number (TooLarge what) = 9
+run_status_number (NoPart session part) = 10
 
--- the status of a run whose sessions began, by its closing flush and whether its text was taken whole
+-- the status of a run whose sessions began, by its closing flush and whether its text was taken
+-- whole
 abbrev pub played_status : Closing → Bool → RunStatus
 played_status Good true = Done
 played_status Good false = SinkFault
@@ -45,12 +49,13 @@ IsEndStatus SinkFault = Unit {0}
 IsEndStatus OutOfMemory = Unit {0}
 IsEndStatus _ = ⊥
 
--- The report of a run comes with the statuses 0, 1 and 7, with 8 just where the closing flush was refused memory, and with
--- no other; status 1 comes just where the closing flush failed. Without a report the status is that of a refusal: 2 to 6 or 8
--- to 10.
+-- The report of a run comes with the statuses 0, 1 and 7, with 8 just where the closing flush was
+-- refused memory, and with no other; status 1 comes just where the closing flush failed. Without a
+-- report the status is that of a refusal: 2 to 6 or 8 to 10.
 abbrev pub HasRunReport : RunStatus → Option Report → Type 0
 HasRunReport status None = (refusal : Refusal) × (status ≡ refused_status refusal)
-HasRunReport status (Some report) = (was_written : Bool) × (status ≡ played_status report.closing was_written)
+HasRunReport status (Some report) =
+    (was_written : Bool) × (status ≡ played_status report.closing was_written)
 
 -- no report, and a status of `make`
 pub record HasMade (status : RunStatus) (report : Option Report) : Type 0 where
@@ -76,8 +81,8 @@ IsContentStatus (TooLarge limit.Table) = Unit {0}
 IsContentStatus (NoPart session part) = Unit {0}
 IsContentStatus _ = ⊥
 
--- A copy is handed out with a report, and without one exactly where its content is the cause of the refusal; a run on the
--- disk itself hands out none.
+-- A copy is handed out with a report, and without one exactly where its content is the cause of the
+-- refusal; a run on the disk itself hands out none.
 abbrev pub HandsOut : Bool → Option MemDisk → RunStatus → Option Report → Type 0
 HandsOut true dry status (Some report) = IsSome dry
 HandsOut true dry status None = IsSome dry ↔ IsContentStatus status

@@ -1,6 +1,7 @@
 -- What the words of a call ask for.
 use Rattle.std.specs.Borrow.{Bor}
-use Rattle.std.specs.Prelude.{◌≡◌, ◌≤◌, ℕ, Bool, true, false, List, map, Option, Some, None, unwrap_or, Result, Ok, Err}
+use Rattle.std.specs.Prelude.{◌≡◌, ◌≤◌, ℕ, Bool, true, false, List, map, Option, Some, None}
+use Rattle.std.specs.Prelude.{unwrap_or, Result, Ok, Err}
 use Rattle.host_report.specs.Summary.{summary_text}
 use Rattle.host_report.specs.Text.{report_text}
 use Rattle.host_report.specs.declared.report.Report.{Report}
@@ -12,7 +13,7 @@ use Rattle.host_words.specs.declared.command.Command.{Command}
 use Rattle.host_words.specs.declared.words_error.WordsError.{WordsError}
 use Rattle.host_words.specs.declared.words_error.WordsError.TheVariants as error
 use Rattle.script_model.specs.Generate.{generated}
-use Rattle.script_model.specs.Plans.{SessionPlan}
+use Rattle.script_model.specs.Plans.{PlannedSession}
 
 -- the text of a report, or its summary
 abbrev pub text_of : Text → Report → List ℕ
@@ -32,11 +33,12 @@ pub record Making : Type 0 where
   pub requests : ℕ
 
 -- the script that is made of them
-abbrev pub plans_made : Making → List SessionPlan
+abbrev pub plans_made : Making → List PlannedSession
 plans_made making = generated making.seed making.sessions making.requests
 
--- A run: its image, the size of a block, workers beside the clients, elements of a ring, whether the closing flush is left
--- out and whether it is played on a copy, what is put of it, and the script where that isn't read but made.
+-- A run: its image, the size of a block, workers beside the clients, elements of a ring, whether
+-- the closing flush is left out and whether it is played on a copy, what is put of it, and the
+-- script where that isn't read but made.
 pub record Playing : Type 0 where
   pub name : List ℕ
   pub size : ℕ
@@ -106,7 +108,8 @@ listing_in _ = None
 
 -- the text of a script that words of this meaning ask for
 abbrev pub making_in : Option Meaning → Option Making
-making_in (Some (make seed sessions requests)) = Some (record { seed = seed; sessions = sessions; requests = requests })
+making_in (Some (make seed sessions requests)) =
+    Some (record { seed = seed; sessions = sessions; requests = requests })
 making_in _ = None
 
 -- ---- numbers in their ranges
@@ -124,10 +127,12 @@ pub record IsCrew (workers depth : ℕ) : Type 0 where
 
 -- the numbers of words of this meaning are in their ranges
 abbrev pub HasNumbers : Meaning → Type 0
-HasNumbers (run name size workers depth dry cut steps) = IsCrew (unwrap_or workers 2) (unwrap_or depth 128)
+HasNumbers (run name size workers depth dry cut steps) =
+    IsCrew (unwrap_or workers 2) (unwrap_or depth 128)
 HasNumbers (lists name size) = Unit {0}
 HasNumbers (make seed sessions requests) = IsMakeable seed sessions requests
-HasNumbers (load name seed sessions requests size workers depth) = IsMakeable seed sessions requests × IsCrew (unwrap_or workers 2) (unwrap_or depth 128)
+HasNumbers (load name seed sessions requests size workers depth) =
+    IsMakeable seed sessions requests × IsCrew (unwrap_or workers 2) (unwrap_or depth 128)
 
 -- what reading words of this meaning gives
 abbrev pub Asks : Option Meaning → Result Command WordsError → Type 0

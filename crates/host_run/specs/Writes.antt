@@ -12,7 +12,8 @@ AppendsFront old new text = (front : List ℕ) × IsPrefix front text × (new �
 -- where the sink tells, a front of the text was appended, and the whole where the sink didn't fail
 pub record PutsText (before after : SinkSeen) (text : List ℕ) : Type 0 where
   pub front : IsTrue before.tells → AppendsFront before.appended after.appended text
-  pub whole : IsTrue before.tells → ¬ SinkFaulted before after → after.appended ≡ before.appended ++ text
+  pub whole : IsTrue before.tells → ¬ SinkFaulted before after
+      → after.appended ≡ before.appended ++ text
 
 -- the text of a run was put; status 0 says that it was put whole
 pub record TellsRun (before after : SinkSeen) (text : List ℕ) (status : RunStatus) : Type 0 where

@@ -6,7 +6,8 @@ use host_report::Report;
 use host_start::{ImageCopy, StartError};
 use host_worker::Served;
 
-/// A script was played: the disk that was handed in, the copy that was played on, if there was one, and the report.
+/// A script was played: the disk that was handed in, the copy that was played on, if there was one,
+/// and the report.
 #[derive(Drop)]
 pub struct PlayedRun<D> {
     pub disk: D,

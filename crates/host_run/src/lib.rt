@@ -1,4 +1,5 @@
-//! The top call: the words of the program, a script and a disk make a run, whose text goes into a sink.
+//! The top call: the words of the program, a script and a disk make a run, whose text goes into a
+//! sink.
 #![tactic(auto)]
 
 mod ended;

@@ -26,8 +26,10 @@ pub fn list<D: Disk, K: Sink>(
     disk: D,
     out: &mut K,
 ) -> Outcome<D>
-    ensures disk_fault { result.status ≡ DiskFault → DiskFaulted (disk_seen D.Disk disk) (disk_seen D.Disk result.disk) }
-    ensures sink_fault { result.status ≡ SinkFault → SinkFaulted (sink_seen K.Sink out.old) (sink_seen K.Sink out.new) }
+    ensures disk_fault { result.status ≡ DiskFault
+        → DiskFaulted (disk_seen D.Disk disk) (disk_seen D.Disk result.disk) }
+    ensures sink_fault { result.status ≡ SinkFault
+        → SinkFaulted (sink_seen K.Sink out.old) (sink_seen K.Sink out.new) }
     ensures only_reads { WasRead (disk_seen D.Disk disk) (disk_seen D.Disk result.disk) }
     ensures opens_none { OpensNone (D.shape disk) (D.shape result.disk) }
     ensures no_dry { result.dry ≡ None }
@@ -66,7 +68,8 @@ fn no_list<D, K: Sink>(error: StartError, disk: D, out: &mut K) -> Outcome<D>
     ensures no_dry { result.dry ≡ None }
     ensures no_report { result.report ≡ None }
     ensures not_served { result.served ≡ None }
-    ensures line { PutsText (sink_seen K.Sink out.old) (sink_seen K.Sink out.new) (refusal_line (start_status error)) }
+    ensures line { PutsText (sink_seen K.Sink out.old) (sink_seen K.Sink out.new)
+        (refusal_line (start_status error)) }
 {
     refuse(Refusal::NoStart { error }, disk, out)
 }

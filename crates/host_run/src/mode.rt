@@ -27,7 +27,8 @@ const DEPTH: u32 = 128;
 
 /// The setting that words ask for.
 pub fn setting_of(workers: Option<u32>, depth: Option<u32>, cut: bool) -> Setting
-    ensures { result ≡ record { workers = unwrap_or workers 2; depth = unwrap_or depth 128; cut = cut } }
+    ensures { result
+        ≡ record { workers = unwrap_or workers 2; depth = unwrap_or depth 128; cut = cut } }
 {
     Setting {
         workers: workers.unwrap_or(WORKERS),

@@ -33,7 +33,8 @@ pub fn play_on_copy<R: Threads + Wait + Sync, D: Disk, G: Gate + Sync>(
 ) -> Result<PlayedRun<D>, NoRun<D>>
     requires fit { IsFit size (plans_of script) }
     requires setting { IsSetting setting }
-    ensures played { IfOk result (λ run. IsPlayOf (plans_of script) setting.workers setting.depth run.report) }
+    ensures played { IfOk result
+        (λ run. IsPlayOf (plans_of script) setting.workers setting.depth run.report) }
     ensures served { IfOk result (λ run. reported run.served ≡ run.report) }
     ensures ran { IfOk result (λ run. IsRunOn (record {
       name = image.now;

@@ -5,11 +5,13 @@ ghost use Rattle.host_play.specs.Stages.{IsSetting};
 ghost use Rattle.host_run.specs.Ending.{IsScriptOf};
 ghost use Rattle.host_run.specs.Refusals.{refusal_line};
 ghost use Rattle.host_run.specs.Runs.{IsRunOn, RunLeaves};
-ghost use Rattle.host_run.specs.Seen.{DiskFaulted, SinkFaulted, SourceSeen, WasRead, disk_seen, sink_seen};
+ghost use Rattle.host_run.specs.Seen.{DiskFaulted, SinkFaulted, SourceSeen, WasRead, disk_seen};
+ghost use Rattle.host_run.specs.Seen.{sink_seen};
 ghost use Rattle.host_run.specs.Statuses.{HandsOut, HasRunReport, IsServedAs};
 ghost use Rattle.host_run.specs.Words.{Making, playing_by};
 ghost use Rattle.host_run.specs.Writes.{PutsText};
-ghost use Rattle.host_run.specs.declared.status.RunStatus.TheVariants.{BadWords, DiskFault, ScriptFault, SinkFault};
+ghost use Rattle.host_run.specs.declared.status.RunStatus.TheVariants.{BadWords, DiskFault};
+ghost use Rattle.host_run.specs.declared.status.RunStatus.TheVariants.{ScriptFault, SinkFault};
 ghost use Rattle.host_start.specs.Reading.{IsFit};
 ghost use Rattle.host_worker.specs.Gathered.{reported};
 ghost use Rattle.script_model.specs.Plans.{plans_of};
@@ -45,8 +47,10 @@ pub fn play_and_tell<R: Threads + Wait + Sync, D: Disk + Send, K: Sink, G: Gate 
     requires fit { IsFit size (plans_of script) }
     requires setting { IsSetting mode.setting }
     ensures no_words { result.status ≢ BadWords }
-    ensures disk_fault { result.status ≡ DiskFault → DiskFaulted (disk_seen D.Disk disk) (disk_seen D.Disk result.disk) }
-    ensures sink_fault { result.status ≡ SinkFault → SinkFaulted (sink_seen K.Sink out.old) (sink_seen K.Sink out.new) }
+    ensures disk_fault { result.status ≡ DiskFault
+        → DiskFaulted (disk_seen D.Disk disk) (disk_seen D.Disk result.disk) }
+    ensures sink_fault { result.status ≡ SinkFault
+        → SinkFaulted (sink_seen K.Sink out.old) (sink_seen K.Sink out.new) }
     ensures no_source { result.status ≢ ScriptFault }
 
     // What it leaves, wherever the script comes from.
@@ -63,13 +67,15 @@ pub fn play_and_tell<R: Threads + Wait + Sync, D: Disk + Send, K: Sink, G: Gate 
           copy = result.dry;
         }) result.status result.report }
     ensures opens_none { IsTrue mode.dry → OpensNone (D.shape disk) (D.shape result.disk) }
-    ensures reads { IsTrue mode.dry → WasRead (disk_seen D.Disk disk) (disk_seen D.Disk result.disk) }
-    ensures refused_reads { IfNone result.report (WasRead (disk_seen D.Disk disk) (disk_seen D.Disk result.disk)) }
+    ensures reads { IsTrue mode.dry
+        → WasRead (disk_seen D.Disk disk) (disk_seen D.Disk result.disk) }
+    ensures refused_reads { IfNone result.report
+        (WasRead (disk_seen D.Disk disk) (disk_seen D.Disk result.disk)) }
     ensures report { HasRunReport result.status result.report }
     ensures served { IsServedAs result.served result.report }
     ensures dry { HandsOut mode.dry result.dry result.status result.report }
-    ensures line { IfNone result.report
-        (PutsText (sink_seen K.Sink out.old) (sink_seen K.Sink out.new) (refusal_line result.status)) }
+    ensures line { IfNone result.report (PutsText (sink_seen K.Sink out.old)
+        (sink_seen K.Sink out.new) (refusal_line result.status)) }
 {
     match play_script(rt, alloc, script, image, size, mode, disk, gate) {
         Ok(run) => tell(run, mode.text, out),
@@ -90,7 +96,8 @@ fn play_script<R: Threads + Wait + Sync, D: Disk + Send, G: Gate + Sync>(
 ) -> Result<PlayedRun<D>, NoRun<D>>
     requires fit { IsFit size (plans_of script) }
     requires setting { IsSetting mode.setting }
-    ensures played { IfOk result (λ run. IsPlayOf (plans_of script) mode.setting.workers mode.setting.depth run.report) }
+    ensures played { IfOk result
+        (λ run. IsPlayOf (plans_of script) mode.setting.workers mode.setting.depth run.report) }
     ensures served { IfOk result (λ run. reported run.served ≡ run.report) }
     ensures ran { IfOk result (λ run. IsRunOn (record {
       name = image.now;
@@ -108,8 +115,10 @@ fn play_script<R: Threads + Wait + Sync, D: Disk + Send, G: Gate + Sync>(
       new_disk = disk_seen D.Disk no.disk;
       copy = no.dry;
     }) (plans_of script) no.error) }
-    ensures opens_none { IsTrue mode.dry → IfOk result (λ run. OpensNone (D.shape disk) (D.shape run.disk)) }
-    ensures refused_opens_none { IsTrue mode.dry → IfErr result (λ no. OpensNone (D.shape disk) (D.shape no.disk)) }
+    ensures opens_none { IsTrue mode.dry
+        → IfOk result (λ run. OpensNone (D.shape disk) (D.shape run.disk)) }
+    ensures refused_opens_none { IsTrue mode.dry
+        → IfErr result (λ no. OpensNone (D.shape disk) (D.shape no.disk)) }
 {
     if mode.dry {
         play_on_copy(rt, alloc, script, image, size, mode.setting, disk, gate)

@@ -19,8 +19,8 @@ use host_script::ScriptCause;
 use host_start::{Limit, StartError};
 use host_text::{Held, Word, put_line};
 
-/// Puts the line of a refusal, and hands out the copy on which its cause was found. The status stays whether or not `out`
-/// takes the line.
+/// Puts the line of a refusal, and hands out the copy on which its cause was found. The status
+/// stays whether or not `out` takes the line.
 pub fn refuse_on<D, K: Sink>(
     refusal: Refusal,
     dry: Option<MemDisk>,
@@ -33,7 +33,8 @@ pub fn refuse_on<D, K: Sink>(
     ensures no_report { result.report ≡ None }
     ensures not_served { result.served ≡ None }
     ensures report { HasRunReport result.status result.report }
-    ensures line { PutsText (sink_seen K.Sink out.old) (sink_seen K.Sink out.new) (refusal_line (refused_status refusal)) }
+    ensures line { PutsText (sink_seen K.Sink out.old) (sink_seen K.Sink out.new)
+        (refusal_line (refused_status refusal)) }
 {
     let _ = put_refusal(refusal, out);
     Outcome {
@@ -53,14 +54,16 @@ pub fn refuse<D, K: Sink>(refusal: Refusal, disk: D, out: &mut K) -> Outcome<D>
     ensures no_report { result.report ≡ None }
     ensures not_served { result.served ≡ None }
     ensures report { HasRunReport result.status result.report }
-    ensures line { PutsText (sink_seen K.Sink out.old) (sink_seen K.Sink out.new) (refusal_line (refused_status refusal)) }
+    ensures line { PutsText (sink_seen K.Sink out.old) (sink_seen K.Sink out.new)
+        (refusal_line (refused_status refusal)) }
 {
     refuse_on(refusal, None, disk, out)
 }
 
 // Puts the line of a refusal.
 fn put_refusal<K: Sink>(refusal: Refusal, out: &mut K) -> Result<(), SinkFailed>
-    ensures text { Writes (K.tells out.old) (K.appended out.old) (K.appended out.new) (refusal_line (refused_status refusal)) result }
+    ensures text { Writes (K.tells out.old) (K.appended out.old) (K.appended out.new)
+        (refusal_line (refused_status refusal)) result }
     ensures cause { HasCause (K.faults out.old) (K.faults out.new) result }
 {
     match refusal {
@@ -70,7 +73,8 @@ fn put_refusal<K: Sink>(refusal: Refusal, out: &mut K) -> Result<(), SinkFailed>
 }
 
 fn put_error<K: Sink>(error: StartError, out: &mut K) -> Result<(), SinkFailed>
-    ensures text { Writes (K.tells out.old) (K.appended out.old) (K.appended out.new) (refusal_line (start_status error)) result }
+    ensures text { Writes (K.tells out.old) (K.appended out.old) (K.appended out.new)
+        (refusal_line (start_status error)) result }
     ensures cause { HasCause (K.faults out.old) (K.faults out.new) result }
 {
     match error {
@@ -99,7 +103,8 @@ fn limit_line(what: Limit) -> &'static [u8]
 
 // Puts the line that names the first bad line of a script, and its cause.
 fn put_bad_line<K: Sink>(line: u64, cause: ScriptCause, out: &mut K) -> Result<(), SinkFailed>
-    ensures text { Writes (K.tells out.old) (K.appended out.old) (K.appended out.new) (refusal_line (BadScript line cause)) result }
+    ensures text { Writes (K.tells out.old) (K.appended out.old) (K.appended out.new)
+        (refusal_line (BadScript line cause)) result }
     ensures cause { HasCause (K.faults out.old) (K.faults out.new) result }
 {
     let words = [
@@ -120,7 +125,8 @@ fn word_of<'a>(cause: ScriptCause) -> Word<'a>
 
 // Puts the line that names the first session whose partition isn't served.
 fn put_no_part<K: Sink>(session: u32, part: u32, out: &mut K) -> Result<(), SinkFailed>
-    ensures text { Writes (K.tells out.old) (K.appended out.old) (K.appended out.new) (refusal_line (NoPart session part)) result }
+    ensures text { Writes (K.tells out.old) (K.appended out.old) (K.appended out.new)
+        (refusal_line (NoPart session part)) result }
     ensures cause { HasCause (K.faults out.old) (K.faults out.new) result }
 {
     let words = [
@@ -136,7 +142,8 @@ fn put_no_part<K: Sink>(session: u32, part: u32, out: &mut K) -> Result<(), Sink
 
 // Puts one line of words.
 fn put_words<K: Sink>(words: &[Word<'_>], out: &mut K) -> Result<(), SinkFailed>
-    ensures text { Writes (K.tells out.old) (K.appended out.old) (K.appended out.new) (line (all_printed words.now)) result }
+    ensures text { Writes (K.tells out.old) (K.appended out.old) (K.appended out.new)
+        (line (all_printed words.now)) result }
     ensures cause { HasCause (K.faults out.old) (K.faults out.new) result }
 {
     let mut held = Held::new();

@@ -1,6 +1,6 @@
 //! How a run ends.
 ghost use Rattle.std.specs.Prelude.{◌≡◌};
-ghost use Rattle.host_run.specs.Statuses.{number_of};
+ghost use Rattle.host_run.specs.Statuses.{run_status_number};
 
 use host_script::ScriptCause;
 use host_start::Limit;
@@ -27,7 +27,7 @@ pub enum RunStatus {
 impl RunStatus {
     /// The status that the program ends with.
     pub fn number(self) -> u8
-        ensures { result ≡ number_of self }
+        ensures { result ≡ run_status_number self }
     {
         match self {
             RunStatus::Done => 0,

@@ -19,12 +19,14 @@ use host_report::{Closing, Report, write_report, write_summary};
 pub fn tell<D, K: Sink>(run: PlayedRun<D>, text: Text, out: &mut K) -> Outcome<D>
     ensures status { IsEndStatus result.status }
     ensures ended { HasRunReport result.status result.report }
-    ensures sink_fault { result.status ≡ SinkFault → SinkFaulted (sink_seen K.Sink out.old) (sink_seen K.Sink out.new) }
+    ensures sink_fault { result.status ≡ SinkFault
+        → SinkFaulted (sink_seen K.Sink out.old) (sink_seen K.Sink out.new) }
     ensures disk { result.disk ≡ run.disk }
     ensures dry { result.dry ≡ run.dry }
     ensures report { result.report ≡ Some run.report }
     ensures served { result.served ≡ Some run.served }
-    ensures text { TellsRun (sink_seen K.Sink out.old) (sink_seen K.Sink out.new) (text_of text run.report) result.status }
+    ensures text { TellsRun (sink_seen K.Sink out.old) (sink_seen K.Sink out.new)
+        (text_of text run.report) result.status }
 {
     let was_written = put_text(&run.report, text, out).is_ok();
     Outcome {
@@ -38,7 +40,8 @@ pub fn tell<D, K: Sink>(run: PlayedRun<D>, text: Text, out: &mut K) -> Outcome<D
 
 // Puts the text or the summary of a report.
 fn put_text<K: Sink>(report: &Report, text: Text, out: &mut K) -> Result<(), SinkFailed>
-    ensures text { Writes (K.tells out.old) (K.appended out.old) (K.appended out.new) (text_of text report.now) result }
+    ensures text { Writes (K.tells out.old) (K.appended out.old) (K.appended out.new)
+        (text_of text report.now) result }
     ensures cause { HasCause (K.faults out.old) (K.faults out.new) result }
 {
     match text {

@@ -1,10 +1,7 @@
 -- One more request, and one more session, of a generated script.
 use Rattle.std.proofs.Common.{◌≡◌, ℕ, suc, ◌+◌, ◌-◌, ◌<◌, List, [], ◌∷◌, ◌++◌, map, ap, sym, ◌∙◌, append_assoc, arith}
 use Rattle.std.proofs.lemmas.List.{map-append}
-use Rattle.script_model.specs.declared.script.ScriptLine.{ScriptLine}
-use Rattle.script_model.specs.declared.script.SessionScript.{SessionScript}
-use Rattle.script_model.specs.Plans.{SessionPlan, plan_of}
-use Rattle.script_model.specs.Generate.{request_line, waits, request_lines, after_request, after_requests, session_from, sessions_from}
+use Rattle.script_model.specs.{ScriptLine, SessionScript, PlannedSession, plan_of, request_line, waits, request_lines, after_request, after_requests, session_from, sessions_from}
 
 one_less : (n m : ℕ) → n < m → m - n ≡ suc (m - (n + 1))
 one_less n m h = omega arith
@@ -22,7 +19,7 @@ lines_more items more whole x y n requests h e s all =
     ∙ ap (λ k. items ++ request_lines x n k) (sym (one_less n requests h))
     ∙ all
 
-pub sessions_more : (made more : List SessionScript) (s : SessionScript) (whole : List SessionPlan) (x y i count requests : ℕ) → i < count → more ≡ made ++ s ∷ [] → plan_of s ≡ session_from x (i + 1) requests → y ≡ after_requests x requests → map plan_of made ++ sessions_from x (i + 1) requests (count - i) ≡ whole → map plan_of more ++ sessions_from y (i + 1 + 1) requests (count - (i + 1)) ≡ whole
+pub sessions_more : (made more : List SessionScript) (s : SessionScript) (whole : List PlannedSession) (x y i count requests : ℕ) → i < count → more ≡ made ++ s ∷ [] → plan_of s ≡ session_from x (i + 1) requests → y ≡ after_requests x requests → map plan_of made ++ sessions_from x (i + 1) requests (count - i) ≡ whole → map plan_of more ++ sessions_from y (i + 1 + 1) requests (count - (i + 1)) ≡ whole
 sessions_more made more s whole x y i count requests h e p t all =
     let left = count - (i + 1) in
     ap (λ xs. map plan_of xs ++ sessions_from y (i + 1 + 1) requests left) e

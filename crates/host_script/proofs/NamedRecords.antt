@@ -2,11 +2,8 @@
 use Rattle.std.proofs.Common.{◌≡◌, ℕ, Bool, true, false, cond, ◌&&◌, List, Some, None, subst, sym, ap, ◌∙◌}
 use Rattle.std.specs.Str.{bytes_eq}
 use Rattle.host_record.specs.declared.request.Request.{Request}
-use Rattle.host_record.specs.declared.opcode.Opcode.{Opcode}
-use Rattle.host_record.specs.Command.{opcode}
-use Rattle.host_record.specs.Request.{request_bytes, request_of}
-use Rattle.script_model.specs.Named.{has_named_group, named_request}
-use Rattle.script_model.specs.Print.{is_named, named_or_raw, named_words, raw_words, send_words}
+use Rattle.host_record.specs.{Opcode, opcode, request_bytes, request_of}
+use Rattle.script_model.specs.{has_named_group, named_request, is_named, named_or_raw, named_words, raw_words, send_words}
 use Rattle.script_model.proofs.NamedLines.{IsSized, is_named-by}
 
 by_request : (code : Opcode) (bytes : List ℕ) (r : Request) → r ≡ request_of bytes → IsSized r → is_named code bytes ≡ (has_named_group r && bytes_eq (request_bytes (named_request code r)) bytes)

@@ -2,8 +2,7 @@
 use Rattle.std.proofs.Common.{◌≡◌, ℕ, suc, Bool, ◌+◌, ◌≤◌, true, false, cond, List, [], ◌∷◌, ◌++◌, length, ap, ◌∙◌, arith, length-append, add-zero}
 use Rattle.std.specs.Prelude.{filter}
 use Rattle.std.proofs.lemmas.List.Elements.{filter-append}
-use Rattle.script_model.specs.declared.script.ScriptLine.{ScriptLine}
-use Rattle.script_model.specs.Owed.{owes, owed}
+use Rattle.script_model.specs.{ScriptLine, owes, owed}
 
 owed-append : (lines more : List ScriptLine) → owed (lines ++ more) ≡ owed lines + owed more
 unfolding owed

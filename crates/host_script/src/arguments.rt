@@ -1,6 +1,7 @@
 // The words of a line that stand for numbers, and the two that put a record into its group.
 ghost use Rattle.std.specs.Prelude.{◌≡◌, ◌+◌, ◌≤◌, ◌<◌, length, IfOk};
-ghost use Rattle.script_model.specs.Arguments.{has_count, group_bits, group_number, u16_at, u32_at, u64_at, count_at};
+ghost use Rattle.script_model.specs.Arguments.{has_count, force_bit, group_bits, group_number};
+ghost use Rattle.script_model.specs.Arguments.{write_count, u16_at, u32_at, u64_at, count_at};
 
 use crate::keyword::is_text;
 use crate::line::Line;
@@ -55,6 +56,30 @@ impl<'a> Line<'a> {
             Ok(0)
         } else {
             Ok(number(self.word(count + 1), 0, 7)? as u16)
+        }
+    }
+
+    /// How many words of a write stand before those of its group: seven where it is forced, as a
+    /// line of seven or nine words is.
+    pub fn write_count(&self) -> usize
+        ensures value { result ≡ write_count self.now }
+        ensures few { result ≤ 7 }
+    {
+        if matches!(self.count(), 7 | 9) { 7 } else { 6 }
+    }
+
+    /// What the word `force` adds to the command of a write.
+    #[tactic(auto, unfolding(script_model::specs::Arguments::force_bit))]
+    pub fn force_bit(&self) -> Result<u32, ScriptCause>
+        ensures value { result ≡ force_bit self.now }
+        ensures bit { IfOk result (λ bit. bit ≤ 0x1000) }
+    {
+        if !matches!(self.count(), 7 | 9) {
+            Ok(0)
+        } else if is_text(self.word(6), "force") {
+            Ok(0x1000)
+        } else {
+            Err(ScriptCause::WrongCount)
         }
     }
 

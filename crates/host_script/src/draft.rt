@@ -1,6 +1,7 @@
 // A script as far as it was read.
 ghost use Rattle.std.specs.Prelude.{◌≡◌, ◌<◌, IfOk, OnOk, length};
-ghost use Rattle.script_model.specs.Draft.{nothing_yet, plans, added, may_stand, may_wait, owed_so_far, meaning};
+ghost use Rattle.script_model.specs.Draft.{nothing_yet, plans, added, may_stand, may_wait};
+ghost use Rattle.script_model.specs.Draft.{owed_so_far, meaning};
 ghost use Rattle.script_model.specs.Plans.{plans_of};
 
 use crate::append::append;

@@ -1,6 +1,7 @@
 // A stream of draws, and the requests that are made of them.
 ghost use Rattle.std.specs.Prelude.{◌≡◌, ◌<◌, ◌/◌};
-ghost use Rattle.script_model.specs.Generate.{next, after_request, request_from, request_line, transfer};
+ghost use Rattle.script_model.specs.Generate.{next, after_request, request_from, request_line};
+ghost use Rattle.script_model.specs.Generate.{transfer};
 
 use host_record::Request;
 use script_model::ScriptLine;

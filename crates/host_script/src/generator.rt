@@ -1,7 +1,8 @@
 // Scripts that are made from a seed.
 ghost use Rattle.std.specs.Prelude.{◌≡◌, ◌+◌, ◌-◌, ◌≤◌, ◌<◌, ◌++◌, ◌∷◌, IfOk, OnOk};
 ghost use Rattle.script_model.specs.Plans.{plan_of};
-ghost use Rattle.script_model.specs.Generate.{after_request, request_line, waits, after_requests, session_from, generated};
+ghost use Rattle.script_model.specs.Generate.{after_request, request_line, waits, after_requests};
+ghost use Rattle.script_model.specs.Generate.{session_from, generated};
 ghost use Rattle.script_model.specs.Plans.{plans_of};
 
 use crate::append::append;
@@ -72,7 +73,8 @@ fn session(
 fn add_request(draws: &mut Draws, lines: &mut ScriptLines, n: u32, requests: u32) -> Result<(), Oom>
     requires { n < requests }
     ensures state { OnOk result (draws.new.state ≡ after_request draws.old.state) }
-    ensures lines { OnOk result (lines.new.items ≡ lines.old.items ++ request_line draws.old.state n ∷ waits n (requests - (n + 1))) }
+    ensures lines { OnOk result (lines.new.items
+        ≡ lines.old.items ++ request_line draws.old.state n ∷ waits n (requests - (n + 1))) }
 {
     append(lines, draws.request_line(n))?;
     if (n + 1) % 16 == 0 || n + 1 == requests {

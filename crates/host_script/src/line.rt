@@ -1,7 +1,8 @@
 // The words of a line.
 ghost use Rattle.std.specs.Prelude.{◌≡◌, ◌<◌, [], length, map, get_or, IfOk};
 ghost use Rattle.std.specs.List.{list_all};
-ghost use Rattle.script_model.specs.Words.{words, is_blank, begins_comment, all_allowed, is_allowed};
+ghost use Rattle.script_model.specs.Words.{words, is_blank, begins_comment, all_allowed};
+ghost use Rattle.script_model.specs.Words.{is_allowed};
 
 use std::alloc::{AllocError, Global};
 use std::marker::Model;

@@ -2,7 +2,8 @@
 ghost use Rattle.std.specs.Prelude.{◌≡◌, ◌≤◌};
 ghost use Rattle.std.specs.Str.{bytes_eq};
 ghost use Rattle.host_record.specs.Request.{request_of};
-ghost use Rattle.script_model.specs.Named.{high_bits, named_bits, named_group, has_named_group, named_request};
+ghost use Rattle.script_model.specs.Named.{force_of, high_bits, named_bits, named_group};
+ghost use Rattle.script_model.specs.Named.{has_named_group, named_request};
 ghost use Rattle.script_model.specs.Print.{is_named as is_named_by};
 
 use host_record::{Opcode, Request};
@@ -32,11 +33,19 @@ fn is_same(left: &[u8], right: &[u8]) -> bool
     left == right
 }
 
-/// The bits of the command above the opcode.
+// The bit of the command that forces a write.
+fn force_of(request: &Request) -> u32
+    ensures value { result ≡ force_of request.now }
+    ensures bound { result ≤ 0x1000 }
+{
+    if request.is_forced() { 0x1000 } else { 0 }
+}
+
+/// The bits of the command above the opcode, but for the one that forces a write.
 pub fn high_bits(request: &Request) -> u32
     ensures { result ≡ high_bits request.now }
 {
-    request.command - request.command % 256
+    (request.command - request.command % 256).saturating_sub(force_of(request))
 }
 
 // What group words add to the command: nothing where none are printed.
@@ -109,7 +118,7 @@ fn named_request(opcode: Opcode, request: &Request) -> Request
             ..bare
         },
         Opcode::Write => Request {
-            command: 2 + bare.command,
+            command: 2 + force_of(request) + bare.command,
             vmoid: request.vmoid,
             length: request.length,
             vmo_offset: request.vmo_offset,

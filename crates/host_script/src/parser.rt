@@ -1,5 +1,5 @@
 // Reading a script.
-ghost use Rattle.script_model.specs.Script.{Parses, Reads, script_of, after_line};
+ghost use Rattle.script_model.specs.Script.{Parses, ReadsLine, script_of, after_line};
 ghost use Rattle.script_model.specs.Words.{words};
 
 use crate::draft::Draft;
@@ -8,8 +8,8 @@ use crate::split::split_line;
 use script_model::{ParseError, Script};
 use std::alloc::Global;
 
-/// The script that the text means, or the first bad line with its cause. The memory that is taken is in proportion to the
-/// script.
+/// The script that the text means, or the first bad line with its cause. The memory that is taken
+/// is in proportion to the script.
 pub fn parse(alloc: Global, text: &[u8]) -> Result<Script, ParseError>
     ensures { Parses result (script_of text.now) }
 {
@@ -28,7 +28,7 @@ pub fn parse(alloc: Global, text: &[u8]) -> Result<Script, ParseError>
 // Adds what a line says to the draft; the line has that number.
 #[tactic(auto, unfolding(script_model::specs::Script::after_line))]
 fn read_line(alloc: Global, draft: &mut Draft, number: u64, line: &[u8]) -> Result<(), ParseError>
-    ensures { Reads number (after_line draft.old (words line.now)) draft.new result }
+    ensures { ReadsLine number (after_line draft.old (words line.now)) draft.new result }
 {
     let words = Line::new(alloc, line)?;
     if words.count() == 0 {

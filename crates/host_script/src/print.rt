@@ -2,9 +2,9 @@
 ghost use Rattle.std.specs.Prelude.{◌≡◌, flat_map};
 ghost use Rattle.host_io.specs.Causes.{HasCause};
 ghost use Rattle.host_text.specs.Printed.{printed};
-ghost use Rattle.host_text.specs.Writing.{Puts, Writes};
+ghost use Rattle.host_text.specs.Writing.{PutsHeldText, Writes};
 ghost use Rattle.script_model.specs.Plans.{plan_of, plans_of};
-ghost use Rattle.script_model.specs.Print.{end_word, line_text, script_text, session_text};
+ghost use Rattle.script_model.specs.Print.{end_word, line_text, script_text, session_script_text};
 
 use crate::record::write_record;
 use host_io::{Sink, SinkFailed};
@@ -15,7 +15,8 @@ use script_model::{Script, ScriptLine, SessionScript};
 /// Puts the text of a script: one space between words, no comments, and an end for each session.
 pub fn print_script<K: Sink>(script: &Script, out: &mut K) -> Result<(), SinkFailed>
     ensures tells { K.tells out.new ≡ K.tells out.old }
-    ensures text { Writes (K.tells out.old) (K.appended out.old) (K.appended out.new) (script_text (plans_of script.now)) result }
+    ensures text { Writes (K.tells out.old) (K.appended out.old) (K.appended out.new)
+        (script_text (plans_of script.now)) result }
     ensures cause { HasCause (K.faults out.old) (K.faults out.new) result }
 {
     let mut held = Held::new();
@@ -24,7 +25,8 @@ pub fn print_script<K: Sink>(script: &Script, out: &mut K) -> Result<(), SinkFai
 }
 
 fn write_script<K: Sink>(script: &Script, held: &mut Held, out: &mut K) -> Result<(), SinkFailed>
-    ensures { Puts K.tells K.faults K.appended out.old held.old out.new held.new (script_text (plans_of script.now)) result }
+    ensures { PutsHeldText K.tells K.faults K.appended out.old held.old out.new held.new
+        (script_text (plans_of script.now)) result }
 {
     write_sessions(script.sessions.as_slice(), held, out)
 }
@@ -34,7 +36,8 @@ fn write_sessions<K: Sink>(
     held: &mut Held,
     out: &mut K,
 ) -> Result<(), SinkFailed>
-    ensures { Puts K.tells K.faults K.appended out.old held.old out.new held.new (flat_map (λ s. session_text (plan_of s)) sessions.now) result }
+    ensures { PutsHeldText K.tells K.faults K.appended out.old held.old out.new held.new
+        (flat_map (λ s. session_script_text (plan_of s)) sessions.now) result }
 {
     for session in sessions {
         write_session(session, held, out)?;
@@ -47,7 +50,8 @@ fn write_session<K: Sink>(
     held: &mut Held,
     out: &mut K,
 ) -> Result<(), SinkFailed>
-    ensures { Puts K.tells K.faults K.appended out.old held.old out.new held.new (session_text (plan_of session.now)) result }
+    ensures { PutsHeldText K.tells K.faults K.appended out.old held.old out.new held.new
+        (session_script_text (plan_of session.now)) result }
 {
     let part = Word::Number(session.part as u64);
     put_line(b"", &[Word::Text(b"session"), part], held, out)?;
@@ -69,7 +73,8 @@ fn write_lines<K: Sink>(
     held: &mut Held,
     out: &mut K,
 ) -> Result<(), SinkFailed>
-    ensures { Puts K.tells K.faults K.appended out.old held.old out.new held.new (flat_map line_text lines.now) result }
+    ensures { PutsHeldText K.tells K.faults K.appended out.old held.old out.new held.new
+        (flat_map line_text lines.now) result }
 {
     for line in lines {
         write_line(line, held, out)?;
@@ -78,7 +83,8 @@ fn write_lines<K: Sink>(
 }
 
 fn write_line<K: Sink>(line: &ScriptLine, held: &mut Held, out: &mut K) -> Result<(), SinkFailed>
-    ensures { Puts K.tells K.faults K.appended out.old held.old out.new held.new (line_text line.now) result }
+    ensures { PutsHeldText K.tells K.faults K.appended out.old held.old out.new held.new
+        (line_text line.now) result }
 {
     match line {
         ScriptLine::Attach { pages } => {

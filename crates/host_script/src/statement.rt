@@ -1,6 +1,9 @@
 // What a line says by itself.
-ghost use Rattle.std.specs.Prelude.{◌≡◌};
-ghost use Rattle.script_model.specs.Lines.{session_line, attach_line, fill_line, show_line, transfer_line, flush_line, trim_line, close_line, raw_line, wait_line, end_line, statement, sends, opcode_number};
+ghost use Rattle.std.specs.Prelude.{◌≡◌, ◌≤◌};
+ghost use Rattle.script_model.specs.Lines.{session_line, attach_line, fill_line, show_line};
+ghost use Rattle.script_model.specs.Lines.{transfer_line, write_line, flush_line, trim_line};
+ghost use Rattle.script_model.specs.Lines.{close_line, raw_line, wait_line, end_line, statement};
+ghost use Rattle.script_model.specs.Lines.{sends, opcode_number};
 
 use crate::line::Line;
 use crate::number::{byte, number, record_bytes};
@@ -61,18 +64,20 @@ impl<'a> Line<'a> {
     }
 
     #[tactic(auto, unfolding(script_model::specs::Lines::transfer_line))]
-    fn transfer(&self, opcode: Opcode) -> Result<Statement, ScriptCause>
-        ensures { result ≡ transfer_line opcode self.now }
+    fn transfer(&self, command: u32, count: usize) -> Result<Statement, ScriptCause>
+        requires command { command ≤ 0x1002 }
+        requires count { (6 ≤ count) × (count ≤ 7) }
+        ensures { result ≡ transfer_line command count self.now }
     {
-        let bits = self.group_bits(6)?;
+        let bits = self.group_bits(count)?;
         let reqid = self.u32_at(1)?;
         let vmoid = self.u16_at(2)?;
         let vmo_offset = self.u64_at(3)?;
         let dev_offset = self.u64_at(4)?;
         let length = self.u32_at(5)?;
-        let group = self.group_number(6)?;
+        let group = self.group_number(count)?;
         Ok(sends(&Request {
-            command: opcode_number(opcode) + bits,
+            command: command + bits,
             reqid,
             group,
             vmoid,
@@ -80,6 +85,14 @@ impl<'a> Line<'a> {
             vmo_offset,
             dev_offset,
         }))
+    }
+
+    #[tactic(auto, unfolding(script_model::specs::Lines::write_line))]
+    fn write(&self) -> Result<Statement, ScriptCause>
+        ensures { result ≡ write_line self.now }
+    {
+        let force = self.force_bit()?;
+        self.transfer(opcode_number(Opcode::Write) + force, self.write_count())
     }
 
     #[tactic(auto, unfolding(script_model::specs::Lines::flush_line))]
@@ -184,8 +197,8 @@ impl<'a> Line<'a> {
             Keyword::Attach => self.attach(),
             Keyword::Fill => self.fill(),
             Keyword::Show => self.show(),
-            Keyword::Read => self.transfer(Opcode::Read),
-            Keyword::Write => self.transfer(Opcode::Write),
+            Keyword::Read => self.transfer(opcode_number(Opcode::Read), 6),
+            Keyword::Write => self.write(),
             Keyword::Flush => self.flush(),
             Keyword::Trim => self.trim(),
             Keyword::Close => self.close(),

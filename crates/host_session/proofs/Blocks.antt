@@ -3,22 +3,13 @@ use Rattle.std.proofs.Common.{◌≡◌, ℕ, ◌==◌, Bool, true, false, ◌&&
 use Rattle.std.specs.List.{list_all}
 use Rattle.std.proofs.lemmas.List.Elements.{filter-append}
 use Rattle.std.proofs.lemmas.List.Folds.{list_all-append}
-use Rattle.host_intake.specs.declared.entry.IntakeEntry.{IntakeEntry}
-use Rattle.host_intake.specs.Entries.{maker_of}
-use Rattle.host_model.specs.declared.event.Event.{Event}
-use Rattle.host_model.specs.declared.event.Event.TheVariants.{Drained}
-use Rattle.host_model.specs.declared.memory.MemEvent.{MemEvent}
-use Rattle.host_model.specs.declared.memory.MemEvent.TheVariants.{Attach, Fill, Show, Pin, Lift, Land, Done, Release}
+use Rattle.host_intake.specs.{IntakeEntry, maker_of}
+use Rattle.host_model.specs.{Event, Drained, MemEvent, Attach, Fill, Show, Pin, Lift, Land, Done, Release, is_client, all_after, all_with_before}
 use Rattle.host_model.specs.declared.memory.MemEvent.TheVariants as mem
-use Rattle.host_model.specs.ClientEntries.{is_client}
-use Rattle.host_model.specs.Lists.{all_after, all_with_before}
 use Rattle.host_model.proofs.ListTests.{and-from, both}
-use Rattle.host_turn.specs.History.{entries_of}
-use Rattle.host_turn.specs.Seats.{number, seen_by}
-use Rattle.host_session.specs.Calls.{IsTurn}
-use Rattle.host_session.specs.Client.{IntakeSeat}
-use Rattle.host_session.specs.Endings.{IsDrainedLog, is_received, is_turn}
-use Rattle.host_session.specs.Told.{finds_blocks}
+use Rattle.host_log.specs.{entries_of}
+use Rattle.host_turn.specs.{number, seen_by}
+use Rattle.host_session.specs.{IsTurn, IntakeSeat, IsDrainedLog, is_receipt, is_turn, finds_blocks}
 
 -- ---- what was found
 
@@ -57,12 +48,12 @@ found_more xs w finds e = all_both finds_blocks [] xs (w ∷ []) e (and-from (fi
 
 -- ---- a drained log
 
-pub drained_more : (log : List Event) (e : Event) → is_received e ≡ true → IsDrainedLog log → IsDrainedLog (log ++ e ∷ [])
+pub drained_more : (log : List Event) (e : Event) → is_receipt e ≡ true → IsDrainedLog log → IsDrainedLog (log ++ e ∷ [])
 drained_more log e is d = record {
   before = d.before;
   rest = d.rest ++ e ∷ [];
   split = ap (λ l. l ++ e ∷ []) d.split ∙ append_assoc d.before (Drained ∷ d.rest) (e ∷ []);
-  answers = list_all-append is_received d.rest (e ∷ []) ∙ and-from (list_all is_received d.rest) (is_received e && true) d.answers (and-from (is_received e) true is refl);
+  answers = list_all-append is_receipt d.rest (e ∷ []) ∙ and-from (list_all is_receipt d.rest) (is_receipt e && true) d.answers (and-from (is_receipt e) true is refl);
 }
 
 -- ---- the client's turns

@@ -1,26 +1,12 @@
 -- What is true of a client end stays true by each call that doesn't visit the buffers.
 use Rattle.std.proofs.Common.{◌≡◌, ℕ, ◌+◌, ◌≤◌, ◌<◌, Bool, true, false, not, ◌||◌, cond, IsTrue, List, [], ◌∷◌, ◌++◌, length, filter, Option, Some, None, refl, sym, ap, ◌∙◌, arith, length-append}
 use Rattle.std.specs.List.{list_any}
-use Rattle.host_intake.specs.declared.entry.IntakeEntry.{IntakeEntry}
-use Rattle.host_model.specs.declared.event.AttachError.{AttachError}
-use Rattle.host_model.specs.declared.event.Event.{Event}
-use Rattle.host_model.specs.declared.event.Event.TheVariants.{NotAttached, Sent, Received, Drained}
-use Rattle.host_model.specs.declared.memory.MemEntry.{MemEntry}
-use Rattle.host_model.specs.Groups.{owed}
-use Rattle.host_model.specs.Lists.{count}
-use Rattle.host_model.specs.Log.{received, received_bytes, sent, sent_bytes}
-use Rattle.host_model.specs.Taking.{is_end, runs_out_rightly}
-use Rattle.host_record.specs.declared.finish.Finish.{Finish}
-use Rattle.host_record.specs.declared.finish.Finish.TheVariants.{Drain, Abort}
-use Rattle.host_rings.specs.declared.slip.Slip.{Slip}
-use Rattle.host_rings.specs.RequestEnds.{with_pushed}
-use Rattle.host_turn.specs.Seats.{seen_by}
-use Rattle.host_session.specs.declared.fronts.Fronts.{Fronts}
-use Rattle.host_session.specs.Acts.{Act, AreLate, is_answer, is_drain_event, is_drained, log_of, next_envelope}
-use Rattle.host_session.specs.Calls.{with_event, with_slips}
-use Rattle.host_session.specs.Client.{ClientState, greater, is_aborted, room_left, slip_fronts}
-use Rattle.host_session.specs.Endings.{IsEndedSoFar, IsOver, owed_count}
-use Rattle.host_session.specs.Kept.{IsClient}
+use Rattle.host_intake.specs.{IntakeEntry}
+use Rattle.host_model.specs.{AttachError, Event, NotAttached, Sent, Received, Drained, MemEntry, owed, count, received, received_bytes, sent, sent_bytes, is_end, runs_out_rightly}
+use Rattle.host_record.specs.{Finish, Drain, Abort}
+use Rattle.host_rings.specs.{Slip, with_pushed}
+use Rattle.host_turn.specs.{seen_by}
+use Rattle.host_session.specs.{Fronts, Act, AreLate, is_answer, is_drain_event, is_drain_act, log_of, next_envelope, with_event, with_slips, ClientState, greater, is_aborted, room_left, slip_fronts, IsEndedSoFar, IsSessionOver, owed_count, IsClient}
 use Rattle.host_session.proofs.Course.{course_quiet, course_received, course_sent, course_thrown, within_refl}
 use Rattle.host_session.proofs.Keeping.{ended_quiet, late_still, log_quiet, log_sent, none_late, one_more_fits, told_quiet}
 use Rattle.host_session.proofs.Requests.{requests_quiet}
@@ -32,12 +18,12 @@ head_is : (e : Event) (log : List Event) → e ∷ log ≡ Drained ∷ [] → is
 head_is e log is = let same : e ≡ Drained = cc in ap is_drain_event same
 
 -- a log whose end is a drain has that event
-ends_drained : (acts : List Act) → filter is_end (log_of acts) ≡ Drained ∷ [] → list_any is_drained acts ≡ true
+ends_drained : (acts : List Act) → filter is_end (log_of acts) ≡ Drained ∷ [] → list_any is_drain_act acts ≡ true
 ends_drained [] is = absurd (cc is)
 ends_drained (a ∷ acts) is = at (is_end a.event) is (ends_drained acts)
   where
-    at : (b : Bool) → cond b (a.event ∷ filter is_end (log_of acts)) (filter is_end (log_of acts)) ≡ Drained ∷ [] → (filter is_end (log_of acts) ≡ Drained ∷ [] → list_any is_drained acts ≡ true) → (is_drain_event a.event || list_any is_drained acts) ≡ true
-    at true e ih = ap (λ b. b || list_any is_drained acts) (head_is a.event (filter is_end (log_of acts)) e)
+    at : (b : Bool) → cond b (a.event ∷ filter is_end (log_of acts)) (filter is_end (log_of acts)) ≡ Drained ∷ [] → (filter is_end (log_of acts) ≡ Drained ∷ [] → list_any is_drain_act acts ≡ true) → (is_drain_event a.event || list_any is_drain_act acts) ≡ true
+    at true e ih = ap (λ b. b || list_any is_drain_act acts) (head_is a.event (filter is_end (log_of acts)) e)
     at false e ih = ap (λ b. is_drain_event a.event || b) (ih e) ∙ elim (is_drain_event a.event) as (λ b. (b || true) ≡ true) [ true ↦ refl | false ↦ refl ]
 
 -- more acts: the client's releases are still late
@@ -47,7 +33,7 @@ late_more c None true log es h acts more inner is t late = absurd (cc (t.first r
 late_more c (Some Abort) true log es h acts more inner is t late = absurd (cc inner)
 late_more c (Some Drain) true log es h acts more inner is t late = late_still c es h acts more (ends_drained acts (ap (filter is_end) is ∙ t.logged)) late
 
-over_received : (finish : Option Finish) (log : List Event) (es : List IntakeEntry) (h : List MemEntry) (bytes : List ℕ) → IsOver finish log es h → IsOver finish (log ++ Received bytes ∷ []) es h
+over_received : (finish : Option Finish) (log : List Event) (es : List IntakeEntry) (h : List MemEntry) (bytes : List ℕ) → IsSessionOver finish log es h → IsSessionOver finish (log ++ Received bytes ∷ []) es h
 over_received finish log es h bytes o =
     let s : sent (log ++ Received bytes ∷ []) ≡ sent log = found_none sent_bytes log (Received bytes) refl in
     let w : owed_count (log ++ Received bytes ∷ []) ≡ owed_count log = ap (λ rs. length (owed rs)) (requests_quiet log (Received bytes) refl) in

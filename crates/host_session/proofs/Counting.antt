@@ -3,13 +3,9 @@ use Rattle.std.proofs.Common.{◌≡◌, ℕ, suc, ◌≤◌, Bool, true, false,
 use Rattle.std.proofs.lemmas.Bool.{le-leb}
 use Rattle.std.proofs.lemmas.Slice.Eq.{bytes_eq-Decides}
 use Rattle.std.specs.Str.{bytes_eq}
-use Rattle.host_model.specs.declared.event.Event.{Event}
-use Rattle.host_model.specs.declared.row.TakenRow.{TakenRow}
-use Rattle.host_model.specs.Answers.{answer_bytes, due}
-use Rattle.host_model.specs.Lists.{count, within_counts}
-use Rattle.host_model.specs.Log.{received, requests}
+use Rattle.host_model.specs.{Event, TakenRow, answer_bytes, due, count, within_counts, received, requests}
 use Rattle.host_model.proofs.ListTests.{all_pass, and-from}
-use Rattle.host_session.specs.Counting.{AreAnswered, AreCounted, CountingTells, due_records}
+use Rattle.host_session.specs.{AreAnswered, AreCounted, CountingTells, due_records}
 use Rattle.host_session.proofs.Times.{StandsOnce, as_many_pass, fewer_pass, found_again, no_more}
 
 same_bytes : (x : List ℕ) → bytes_eq x x ≡ true

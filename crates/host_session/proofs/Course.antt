@@ -1,28 +1,18 @@
 -- The course of a client end, once one event was added.
-use Rattle.std.proofs.Common.{◌≡◌, ℕ, Bool, true, false, ◌==◌, cond, IsTrue, List, [], ◌∷◌, ◌++◌, length, take, filter, map, Option, Some, None, refl, sym, ap, ap₂, subst, ◌∙◌, arith, length-append, append_assoc}
-use Rattle.std.specs.List.{list_all, last_or}
+use Rattle.std.proofs.Common.{◌≡◌, ℕ, Bool, true, false, ◌==◌, cond, IsTrue, List, [], ◌∷◌, ◌++◌, length, take, filter, map, Some, None, refl, sym, ap, ap₂, subst, ◌∙◌, arith, length-append, append_assoc}
+use Rattle.std.specs.List.{list_all}
 use Rattle.std.specs.Option.{unwrap_or}
 use Rattle.std.proofs.lemmas.List.{length-map, map-append, take-append-le}
 use Rattle.host_model.proofs.ListTests.{both}
-use Rattle.host_model.specs.declared.event.Event.{Event}
-use Rattle.host_model.specs.declared.event.Event.TheVariants.{Attached, NotAttached, Filled, Shown, Sent, Received, Drained, Aborted}
-use Rattle.host_model.specs.declared.memory.MemEntry.{MemEntry}
-use Rattle.host_model.specs.declared.memory.MemEvent.{MemEvent}
-use Rattle.host_model.specs.declared.memory.MemEvent.TheVariants.{Attach, Fill, Show, Pin, Lift, Land, Done, Release}
+use Rattle.host_model.specs.{Event, Attached, NotAttached, Filled, Shown, Sent, Received, Drained, Aborted, MemEntry, MemEvent, Attach, Fill, Show, Pin, Lift, Land, Done, Release, is_client, below, last, places, received, received_bytes, sent, sent_bytes}
 use Rattle.host_model.specs.declared.memory.MemEvent.TheVariants as mem
-use Rattle.host_model.specs.ClientEntries.{is_client}
-use Rattle.host_model.specs.Lists.{below, last, places}
-use Rattle.host_model.specs.Log.{received, received_bytes, sent, sent_bytes}
-use Rattle.host_memory.specs.Held.{has_blocks}
-use Rattle.host_memory.specs.Numbers.{is_numbered}
-use Rattle.host_memory.specs.State.{events}
-use Rattle.host_rings.specs.declared.envelope.Envelope.{Envelope}
-use Rattle.host_rings.specs.declared.slip.Slip.{Slip}
-use Rattle.host_turn.specs.History.{entries_of}
-use Rattle.host_session.specs.declared.fronts.Fronts.{Fronts}
-use Rattle.host_session.specs.Acts.{Act, FoundNone, IsAct, IsCourse, IsEventAfter, IsPart, envelopes_of, entry_place, fronts_after, is_answer, next_envelope, slips_of}
-use Rattle.host_session.specs.Client.{AreWithin, no_fronts, slip_fronts}
-use Rattle.host_session.proofs.Snoc.{below_more, each_more, filter_one, filter_rest, found_none, found_one, places_one, places_rest}
+use Rattle.host_memory.specs.{has_blocks, is_numbered, events}
+use Rattle.host_rings.specs.{Envelope, Slip}
+use Rattle.host_log.specs.{entries_of}
+use Rattle.host_session.specs.{Fronts, Act, FoundNoBlocks, IsAct, IsCourse, IsEventAfter, IsPart, envelopes_of, entry_place, fronts_after, is_answer, next_envelope, slips_of, AreWithin, no_fronts, slip_fronts}
+use Rattle.host_session.proofs.Snoc.{each_more, filter_rest, found_none, found_one, places_one, places_rest}
+use Rattle.host_intake.proofs.Counting.{below_more}
+use Rattle.host_memory.proofs.Pushed.{filter_add, last_or_snoc}
 
 -- ---- parts of lists
 
@@ -53,7 +43,7 @@ module _ {A : Type 0} where
   part_kept some all x p = record {
     marked = p.marked ++ (x, true) ∷ [];
     all_are = map-append (λ (m : A × Bool). m.0) p.marked ((x, true) ∷ []) ∙ ap (λ l. l ++ x ∷ []) p.all_are;
-    some_are = ap (map (λ (m : A × Bool). m.0)) (filter_one (λ (m : A × Bool). m.1) p.marked (x, true) refl)
+    some_are = ap (map (λ (m : A × Bool). m.0)) (filter_add (λ (m : A × Bool). m.1) p.marked (x, true) refl)
         ∙ (map-append (λ (m : A × Bool). m.0) (filter (λ (m : A × Bool). m.1) p.marked) ((x, true) ∷ []) ∙ ap (λ l. l ++ x ∷ []) p.some_are);
   }
 
@@ -62,10 +52,6 @@ module _ {A : Type 0} where
   part_more some all thrown x p = subst (λ l. IsPart (some ++ x ∷ []) l) (append_assoc all thrown (x ∷ [])) (part_kept some (all ++ thrown) x (part_thrown some all thrown p))
 
 -- ---- the last act
-
-last_or_snoc : {A : Type 0} (o : Option A) (xs : List A) (x : A) → last_or o (xs ++ x ∷ []) ≡ Some x
-last_or_snoc o [] x = refl
-last_or_snoc o (y ∷ ys) x = last_or_snoc (Some y) ys x
 
 pub fronts_of_last : (acts : List Act) (a : Act) → fronts_after (acts ++ a ∷ []) ≡ a.fronts
 fronts_of_last acts a = ap (last no_fronts) (map-append (λ (x : Act). x.fronts) acts (a ∷ [])) ∙ ap (λ o. unwrap_or o no_fronts) (last_or_snoc None (map (λ (x : Act). x.fronts) acts) a.fronts)
@@ -78,7 +64,7 @@ within_refl f = record { device = omega arith; memory = omega arith }
 
 -- ---- more of the history
 
-found_still : (h rest : List MemEntry) (known : Fronts) (a : Act) (id block count : ℕ) → FoundNone h known a id block count → FoundNone (h ++ rest) known a id block count
+found_still : (h rest : List MemEntry) (known : Fronts) (a : Act) (id block count : ℕ) → FoundNoBlocks h known a id block count → FoundNoBlocks (h ++ rest) known a id block count
 found_still h rest known a id block count f = record {
   plain = f.plain;
   within = omega (arith, f.within, length-append h rest);

@@ -8,20 +8,14 @@ use Rattle.std.proofs.lemmas.List.{map-append}
 use Rattle.std.proofs.lemmas.List.Folds.{list_any-append}
 use Rattle.std.proofs.lemmas.List.Elements.{All-cons, All-nil, filter_map-append}
 use Rattle.std.proofs.lemmas.List.Sums.{sum_by-append}
-use Rattle.host_frames.specs.declared.seat.PoolSeat.{PoolSeat}
-use Rattle.host_memory.specs.Entries.{given_count, is_attach}
-use Rattle.host_memory.specs.Held.{attachment_by, attachment_of, first_held, holds_pages, is_released, page_count_of}
-use Rattle.host_memory.specs.Pins.{is_done_for, is_left, pins_left}
-use Rattle.host_memory.specs.State.{MemoryState, events, history}
-use Rattle.host_model.specs.declared.memory.MemEntry.{MemEntry}
-use Rattle.host_model.specs.declared.memory.MemEvent.{MemEvent}
-use Rattle.host_model.specs.declared.memory.MemEvent.TheVariants.{Attach, Fill, Show, Pin, Lift, Land, Done, Release}
+use Rattle.host_frames.specs.{PoolSeat}
+use Rattle.host_memory.specs.{given_count, is_attach_entry, attachment_by, attachment_of, first_held, holds_pages, is_released, page_count_of, is_done_for, is_left, pins_left, MemoryState, events, history}
+use Rattle.host_model.specs.{MemEntry, MemEvent, Attach, Fill, Show, Pin, Lift, Land, Done, Release, is_release_of}
 use Rattle.host_model.specs.declared.memory.MemEvent.TheVariants as mem
-use Rattle.host_model.specs.Releases.{is_release_of}
-use Rattle.host_turn.specs.History.{Adds}
-use Rattle.host_session.specs.Closing.{HasDropped, HasGivenBack, releases_by}
-use Rattle.host_session.specs.Visits.{entry_by}
-use Rattle.host_session.proofs.Snoc.{filter_none, found_none}
+use Rattle.host_log.specs.{Adds}
+use Rattle.host_session.specs.{HasDropped, HasGivenBack, releases_by, entry_by}
+use Rattle.host_session.proofs.Snoc.{found_none}
+use Rattle.host_memory.proofs.Pushed.{filter_skip}
 
 module _ {A : Type 0} (p q : A → Bool) (less : (x : A) → q x ≡ true → p x ≡ true) where
   no_more_pass : (xs : List A) → length (filter q xs) ≤ length (filter p xs)
@@ -54,7 +48,7 @@ filter_same p q same (x ∷ xs) = ap (λ b. cond b (x ∷ filter p xs) (filter p
 
 module _ (h : List MemEvent) (v : ℕ) where
   given_still : given_count (h ++ Release v ∷ []) ≡ given_count h
-  given_still = ap length (filter_none is_attach h (Release v) refl)
+  given_still = ap length (filter_skip is_attach_entry h (Release v) refl)
 
   attachment_still : (w : ℕ) → attachment_of w (h ++ Release v ∷ []) ≡ attachment_of w h
   attachment_still w = ap (λ l. slice_get l 0) (found_none (attachment_by w) h (Release v) refl)
@@ -98,7 +92,7 @@ module _ (h : List MemEvent) (v : ℕ) where
   left_still (Release id) = refl
 
   pub pins_still : length (pins_left (h ++ Release v ∷ [])) ≡ length (pins_left h)
-  pins_still = ap length (filter_none (is_left (h ++ Release v ∷ [])) h (Release v) refl ∙ filter_same (is_left (h ++ Release v ∷ [])) (is_left h) left_still h)
+  pins_still = ap length (filter_skip (is_left (h ++ Release v ∷ [])) h (Release v) refl ∙ filter_same (is_left (h ++ Release v ∷ [])) (is_left h) left_still h)
 
 -- ---- one release more
 

@@ -3,48 +3,28 @@ use Rattle.std.proofs.Common.{◌≡◌, ◌⊎◌, ⊎_elim, ℕ, ◌+◌, ◌�
 use Rattle.std.specs.List.{list_all, list_any}
 use Rattle.std.proofs.lemmas.Bool.{ltb-false}
 use Rattle.std.proofs.lemmas.List.Folds.{list_all-append, list_any-append}
-use Rattle.host_frames.specs.declared.seat.PoolSeat.{PoolSeat}
-use Rattle.host_intake.specs.declared.entry.IntakeEntry.{IntakeEntry}
-use Rattle.host_intake.specs.declared.entry.IntakeEntry.TheVariants.{Turned}
+use Rattle.host_frames.specs.{PoolSeat}
+use Rattle.host_intake.specs.{IntakeEntry, Turned, takings, MemorySeat, flights_in, is_passed, kept_by, kept_slips, memory_front_in, turns}
 use Rattle.host_intake.specs.declared.entry.Phase.TheVariants as phase
-use Rattle.host_intake.specs.Entries.{takings}
-use Rattle.host_intake.specs.State.{MemorySeat}
-use Rattle.host_intake.specs.Told.{flights_in, is_passed, kept_by, kept_slips, memory_front_in, turns}
 use Rattle.host_intake.specs.Told as told_of
-use Rattle.host_memory.specs.Numbers.{is_numbered}
-use Rattle.host_memory.specs.Pins.{pins_left}
-use Rattle.host_memory.specs.State.{events}
-use Rattle.host_model.specs.declared.event.Event.{Event}
-use Rattle.host_model.specs.declared.event.Event.TheVariants.{Attached, NotAttached, Filled, Shown, Sent, Received, Drained, Aborted}
-use Rattle.host_model.specs.declared.memory.MemEntry.{MemEntry}
-use Rattle.host_model.specs.ClientEntries.{is_client}
-use Rattle.host_model.specs.Lists.{count}
-use Rattle.host_model.specs.Log.{received, received_bytes, sent, sent_bytes}
-use Rattle.host_model.specs.Groups.{owed}
-use Rattle.host_model.specs.Taking.{is_end}
+use Rattle.host_memory.specs.{is_numbered, pins_left, events}
+use Rattle.host_model.specs.{Event, Attached, NotAttached, Filled, Shown, Sent, Received, Drained, Aborted, MemEntry, is_client, count, received, received_bytes, sent, sent_bytes, owed, is_end}
 use Rattle.host_model.proofs.ListTests.{both}
-use Rattle.host_record.specs.declared.finish.Finish.{Finish}
-use Rattle.host_record.specs.declared.finish.Finish.TheVariants.{Drain, Abort}
-use Rattle.host_turn.specs.History.{entries_of}
-use Rattle.host_turn.specs.Seats.{seen_by}
-use Rattle.host_session.specs.declared.fronts.Fronts.{Fronts}
-use Rattle.host_session.specs.Acts.{Act, AreLate, IsCourse, before_drained, fronts_after, is_drain_event, log_of}
-use Rattle.host_session.specs.Acts.{is_drained as is_acts_drained}
-use Rattle.host_session.specs.Client.{AreWithin, ClientState, IntakeSeat, ends_logged, is_aborted, is_drained, turns_made}
-use Rattle.host_session.specs.Closing.{HasClosed, HasNotClosed, releases_by}
-use Rattle.host_session.specs.Endings.{IsOver, owed_count}
-use Rattle.host_session.specs.Kept.{IsClient}
-use Rattle.host_session.specs.Plan.{intake_plan, memory_plan}
-use Rattle.host_session.specs.Told.{IsTold, is_release}
+use Rattle.host_record.specs.{Finish, Drain, Abort}
+use Rattle.host_log.specs.{entries_of}
+use Rattle.host_turn.specs.{seen_by}
+use Rattle.host_session.specs.{Fronts, Act, AreLate, IsCourse, before_drained, fronts_after, is_drain_event, log_of, is_drain_act as is_acts_drained, AreWithin, ClientState, IntakeSeat, ends_logged, is_aborted, is_drained, turns_made, HasClosedSession, HasNotClosed, releases_by, IsSessionOver, owed_count, IsClient, intake_plan, memory_plan, IsClientTold, is_release}
 use Rattle.host_session.proofs.Blocks.{turned_own}
 use Rattle.host_session.proofs.Course.{course_quiet, course_seen, no_client, within_refl}
 use Rattle.host_session.proofs.Finishing.{log_ended}
 use Rattle.host_session.proofs.Keeping.{none_late, told_quiet}
 use Rattle.host_session.proofs.Requests.{requests_quiet}
 use Rattle.host_session.proofs.Shutting.{all_before_drained, before_this_drain, flights_still, front_still, late_released, none_client, takings_still, told_released}
-use Rattle.host_session.proofs.Snoc.{filter_none, filter_one, found_none}
+use Rattle.host_session.proofs.Snoc.{found_none}
+use Rattle.host_memory.proofs.Pushed.{filter_add, filter_skip}
 use Rattle.host_session.proofs.Turning.{turned_more}
-use Rattle.host_session.proofs.Visiting.{course_found, nothing_more, own_append, seat_still, told_found, told_seen}
+use Rattle.host_session.proofs.Visiting.{course_found, own_append, seat_still, told_found, told_seen}
+use Rattle.host_log.proofs.Places.{nothing_more}
 
 -- what others did has nothing of the client's
 quiet_rest : (c : ℕ) (xs rest ys : List MemEntry) → xs ++ rest ≡ ys → entries_of (λ e. e.hand) c ys ≡ entries_of (λ e. e.hand) c xs → (ys ≡ xs) ⊎ IsTrue (list_all (is_numbered c (c + 1)) ys) → filter is_client (events rest) ≡ []
@@ -68,10 +48,10 @@ is_zero n e = let l = ltb-false 0 n e in omega (arith, l)
 -- answers kept, once the intake was shut
 kept_still : (es : List IntakeEntry) (c : ℕ) → kept_slips (es ++ Turned c phase.Closed ∷ []) ≡ kept_slips es
 kept_still es c =
-    let w : list_any told_of.is_aborted (turns (es ++ Turned c phase.Closed ∷ [])) ≡ list_any told_of.is_aborted (turns es) =
-    ap (list_any told_of.is_aborted) (turned_more c es phase.Closed) ∙ (list_any-append told_of.is_aborted (turns es) (phase.Closed ∷ []) ∙ elim (list_any told_of.is_aborted (turns es)) as (λ b. (b || false) ≡ b) [ true ↦ refl | false ↦ refl ]) in
+    let w : list_any told_of.is_aborted_phase (turns (es ++ Turned c phase.Closed ∷ [])) ≡ list_any told_of.is_aborted_phase (turns es) =
+    ap (list_any told_of.is_aborted_phase) (turned_more c es phase.Closed) ∙ (list_any-append told_of.is_aborted_phase (turns es) (phase.Closed ∷ []) ∙ elim (list_any told_of.is_aborted_phase (turns es)) as (λ b. (b || false) ≡ b) [ true ↦ refl | false ↦ refl ]) in
     ap (λ b. cond b [] (drop (count is_passed (es ++ Turned c phase.Closed ∷ [])) (filter_map kept_by (es ++ Turned c phase.Closed ∷ [])))) w
-    ∙ ap₂ (λ n l. cond (list_any told_of.is_aborted (turns es)) [] (drop n l)) (ap length (filter_none is_passed es (Turned c phase.Closed) refl)) (found_none kept_by es (Turned c phase.Closed) refl)
+    ∙ ap₂ (λ n l. cond (list_any told_of.is_aborted_phase (turns es)) [] (drop n l)) (ap length (filter_skip is_passed es (Turned c phase.Closed) refl)) (found_none kept_by es (Turned c phase.Closed) refl)
 
 -- ---- how the session was to end
 
@@ -125,7 +105,7 @@ no_drain (a ∷ acts) = at (is_end a.event) (is_drain_event a.event) refl (drain
     at false true is f ih = absurd (cc (f refl))
     at false false is f ih = ih
 
-over_drained : (finish : Option Finish) (log : List Event) (es : List IntakeEntry) (h : List MemEntry) → IsOver finish log es h → IsOver finish (log ++ Drained ∷ []) es h
+over_drained : (finish : Option Finish) (log : List Event) (es : List IntakeEntry) (h : List MemEntry) → IsSessionOver finish log es h → IsSessionOver finish (log ++ Drained ∷ []) es h
 over_drained finish log es h o = record {
   landed = o.landed;
   passed = o.passed;
@@ -151,7 +131,7 @@ module _ (s : ClientState) (k : IsClient s) (running : s.closed ≡ false) (i : 
         page_size = k.page_size;
         rings = record { sender = k.rings.sender; taker = k.rings.taker };
         log = k.log;
-        told = subst (λ l. IsTold c s.plan.spec.size s.log l) whole (told_seen c s.plan.spec.size s.log h rest none (ap (entries_of (λ x. x.hand) c) whole ∙ own) k.told);
+        told = subst (λ l. IsClientTold c s.plan.spec.size s.log l) whole (told_seen c s.plan.spec.size s.log h rest none (ap (entries_of (λ x. x.hand) c) whole ∙ own) k.told);
         seen = omega (arith, t.known_is);
         ended = record { first = k.ended.first; turned = t.turned ∙ k.ended.turned; logged = k.ended.logged; last = k.ended.last; drained = λ _ b. absurd (cc (sym b ∙ running)); own = turned_own c s.intake_seat i t.intake_found [] t.turn k.intake_seat.number_is refl k.ended.own; running = λ _. unreleased; over = λ b. absurd (cc (sym b ∙ running)) };
         acts = k.acts;
@@ -161,9 +141,9 @@ module _ (s : ClientState) (k : IsClient s) (running : s.closed ≡ false) (i : 
 
   -- ---- closed
 
-  module _ (t : HasClosed s.plan.hands wanted s.fronts.memory s.intake_seat i s.memory_seat m p p' known) where
+  module _ (t : HasClosedSession s.plan.hands wanted s.fronts.memory s.intake_seat i s.memory_seat m p p' known) where
     -- nothing is left to do
-    pub is_over : (is_drained s.finish ≡ true → wanted ≡ length (sent s.log)) → (is_drained s.finish ≡ true → owed_count s.log ≤ length (received s.log)) → IsOver s.finish s.log (seen_by i) (seen_by m)
+    pub is_over : (is_drained s.finish ≡ true → wanted ≡ length (sent s.log)) → (is_drained s.finish ≡ true → owed_count s.log ≤ length (received s.log)) → IsSessionOver s.finish s.log (seen_by i) (seen_by m)
     is_over all answered =
         let es : List IntakeEntry = t.intake_found in
         let c : ℕ = s.plan.hands in
@@ -177,11 +157,11 @@ module _ (s : ClientState) (k : IsClient s) (running : s.closed ≡ false) (i : 
         }
 
     -- what it has seen of the buffers
-    found_told : IsTold s.plan.hands s.plan.spec.size s.log (seen_by m)
+    found_told : IsClientTold s.plan.hands s.plan.spec.size s.log (seen_by m)
     found_told =
         let v = t.released.visit in
         let own = subst (λ (n : ℕ). entries_of (λ x. x.hand) n t.released.found ≡ entries_of (λ x. x.hand) n (seen_by s.memory_seat)) k.memory_seat.number_is v.later.1 in
-        subst (λ l. IsTold s.plan.hands s.plan.spec.size s.log l) (sym v.left)
+        subst (λ l. IsClientTold s.plan.hands s.plan.spec.size s.log l) (sym v.left)
         (told_released s.plan.hands s.plan.spec.size s.log t.released.found t.released.ids (told_found s k m t.released.found t.released.numbered v.later.0.0 v.later.0.1 own))
 
     found_course : IsCourse s.log s.sender.pushed s.taker.taken (seen_by m) (record { device = s.fronts.device; memory = known }) k.acts
@@ -207,7 +187,7 @@ module _ (s : ClientState) (k : IsClient s) (running : s.closed ≡ false) (i : 
         (late_released s.plan.hands (seen_by i) found t.released.ids acts front none v.past
         (omega (arith, ap (λ l. (fronts_after l).memory) before, k.course.fronts.memory)) (omega (arith, mf)))
 
-    pub kept_closed_after_abort : is_aborted s.finish ≡ true → IsOver s.finish s.log (seen_by i) (seen_by m) → IsClient (record s { closed = true; fronts = record { device = s.fronts.device; memory = known }; intake_seat = i; memory_seat = m })
+    pub kept_closed_after_abort : is_aborted s.finish ≡ true → IsSessionOver s.finish s.log (seen_by i) (seen_by m) → IsClient (record s { closed = true; fronts = record { device = s.fronts.device; memory = known }; intake_seat = i; memory_seat = m })
     kept_closed_after_abort aborted over = record {
       intake_seat = seat_still s.plan.intake (intake_plan s.plan) s.plan.hands s.intake_seat i k.intake_seat t.turn.seat.0 t.turn.seat.1;
       memory_seat = seat_still s.plan.memory (memory_plan s.plan) s.plan.hands s.memory_seat m k.memory_seat t.released.visit.seat.0 t.released.visit.seat.1;
@@ -231,7 +211,7 @@ module _ (s : ClientState) (k : IsClient s) (running : s.closed ≡ false) (i : 
       late = found_late k.acts (all_before_drained k.acts (sym (no_drain k.acts) ∙ ap (λ l. list_any is_drain_event (filter is_end l)) k.course.events_are ∙ ap (list_any is_drain_event) (k.ended.logged ∙ (ap (ends_logged s.finish) running ∙ abort_ends s.finish aborted))));
     }
 
-    pub kept_closed_after_drain : is_drained s.finish ≡ true → owed_count s.log ≤ length (received s.log) → IsOver s.finish s.log (seen_by i) (seen_by m) → IsClient (record s { log = s.log ++ Drained ∷ []; closed = true; fronts = record { device = s.fronts.device; memory = known }; intake_seat = i; memory_seat = m })
+    pub kept_closed_after_drain : is_drained s.finish ≡ true → owed_count s.log ≤ length (received s.log) → IsSessionOver s.finish s.log (seen_by i) (seen_by m) → IsClient (record s { log = s.log ++ Drained ∷ []; closed = true; fronts = record { device = s.fronts.device; memory = known }; intake_seat = i; memory_seat = m })
     kept_closed_after_drain drained answered over =
         let f : Fronts = record { device = s.fronts.device; memory = known } in
         let a : Act = record { event = Drained; envelope = None; slip = None; fronts = f } in
@@ -248,7 +228,7 @@ module _ (s : ClientState) (k : IsClient s) (running : s.closed ≡ false) (i : 
           ended = record {
             first = λ e. absurd (cc (sym (ap is_drained e) ∙ drained));
             turned = t.turned ∙ (ap (λ l. l ++ phase.Closed ∷ []) (k.ended.turned ∙ ap (turns_made s.finish) running) ∙ turns_closed s.finish (λ e. cc (sym (ap is_drained e) ∙ drained)));
-            logged = filter_one is_end s.log Drained refl ∙ (ap (λ l. l ++ Drained ∷ []) none_logged ∙ drain_logged s.finish drained);
+            logged = filter_add is_end s.log Drained refl ∙ (ap (λ l. l ++ Drained ∷ []) none_logged ∙ drain_logged s.finish drained);
             last = λ e. absurd (not_both s.finish drained e);
             drained = λ _ _. record { before = s.log; rest = []; split = refl; answers = refl };
             own = turned_own s.plan.hands s.intake_seat i t.intake_found (Turned s.plan.hands phase.Closed ∷ []) t.turn k.intake_seat.number_is refl k.ended.own;

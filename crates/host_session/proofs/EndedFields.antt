@@ -1,32 +1,18 @@
 -- The fields of a client end after an attempt to close its session, and what the attempt tells.
-use Rattle.std.proofs.Common.{◌≡◌, ℕ, ◌≤◌, max, Bool, true, false, not, ◌&&◌, ◌||◌, cond, nat_lt, List, [], ◌∷◌, ◌++◌, length, Option, Some, None, IsSome, refl, sym, ap, ap₂, subst, ◌∙◌, arith, append-nil}
+use Rattle.std.proofs.Common.{◌≡◌, ℕ, ◌≤◌, max, Bool, true, false, ◌&&◌, ◌||◌, cond, nat_lt, List, [], ◌∷◌, ◌++◌, length, Option, Some, None, IsSome, refl, sym, ap, ap₂, subst, ◌∙◌, arith, append-nil}
 use Rattle.std.proofs.lemmas.Bool.{ltb-false}
 use Rattle.std.proofs.lemmas.Bool.Decides.{nat_tests}
 use Rattle.atomic_table.specs.Seated.{TableId}
-use Rattle.host_log.specs.Switch.{SwitchedLog}
-use Rattle.host_frames.specs.declared.seat.PoolSeat.{PoolSeat}
-use Rattle.host_intake.specs.declared.entry.IntakeEntry.{IntakeEntry}
-use Rattle.host_intake.specs.Entries.{takings}
-use Rattle.host_intake.specs.State.{MemorySeat}
-use Rattle.host_intake.specs.Told.{flights_in, kept_slips}
-use Rattle.host_memory.specs.Pins.{pins_left}
-use Rattle.host_memory.specs.State.{events}
-use Rattle.host_model.specs.declared.event.Event.{Event}
-use Rattle.host_model.specs.declared.event.Event.TheVariants.{Drained}
-use Rattle.host_model.specs.declared.memory.MemEntry.{MemEntry}
-use Rattle.host_model.specs.Groups.{owed}
-use Rattle.host_model.specs.Log.{given, given_id, received, received_bytes, sent, sent_bytes}
-use Rattle.host_record.specs.declared.finish.Finish.{Finish}
-use Rattle.host_record.specs.declared.finish.Finish.TheVariants.{Drain, Abort}
-use Rattle.host_turn.specs.Seats.{seat_book, seen_by}
-use Rattle.host_turn.proofs.Histories.{prefix_refl}
+use Rattle.host_log.specs.{SwitchedLog}
+use Rattle.host_frames.specs.{PoolSeat}
+use Rattle.host_intake.specs.{IntakeEntry, takings, MemorySeat, flights_in, kept_slips}
+use Rattle.host_memory.specs.{pins_left, events}
+use Rattle.host_model.specs.{Event, Drained, MemEntry, owed, given, given_id, received, received_bytes, sent, sent_bytes}
+use Rattle.host_record.specs.{Finish, Drain, Abort}
+use Rattle.host_turn.specs.{seat_book, seen_by}
+use Rattle.host_log.proofs.Histories.{prefix_refl}
 use Rattle.host_session.specs.declared.client.ClientEnd.TheInside.{Inside}
-use Rattle.host_session.specs.Client.{ClientState, IntakeSeat, ends_logged, is_aborted, is_drained}
-use Rattle.host_session.specs.ClientFields.{IsKept, client_state}
-use Rattle.host_session.specs.Closing.{HasClosed, HasNotClosed, IsClosing, IsStillOpen, closing_event, is_unfinished}
-use Rattle.host_session.specs.Endings.{IsOver, is_undone, owed_count}
-use Rattle.host_session.specs.Kept.{IsClient}
-use Rattle.host_session.specs.Plan.{SessionPlan}
+use Rattle.host_session.specs.{ClientState, IntakeSeat, ends_logged, is_aborted, is_drained, IsClientKept, client_state, HasClosedSession, HasNotClosed, IsClosing, IsStillOpen, closing_event, is_unfinished, IsSessionOver, is_undone, owed_count, IsClient, SessionPlan}
 use Rattle.host_session.proofs.Ended.{is_over, kept_closed_after_abort, kept_closed_after_drain, kept_open}
 use Rattle.host_session.proofs.Requests.{requests_quiet}
 use Rattle.host_session.proofs.Snoc.{found_none}
@@ -95,15 +81,7 @@ none_ended None closed d e = absurd (cc d)
 none_ended (Some Abort) closed d e = absurd (cc d)
 none_ended (Some Drain) closed d e = ap (λ b. length (ends_logged (Some Drain) b)) e
 
-pub not_true : (b : Bool) → not b ≡ true → b ≡ false
-not_true true e = absurd (cc e)
-not_true false e = refl
-
-pub not_false : (b : Bool) → not b ≡ false → b ≡ true
-not_false true e = refl
-not_false false e = absurd (cc e)
-
-module _ (a : Inside) (k : IsKept a) (running : a.closed ≡ false) (i : IntakeSeat) (m : MemorySeat) (p p' : PoolSeat) (wanted known : ℕ)
+module _ (a : Inside) (k : IsClientKept a) (running : a.closed ≡ false) (i : IntakeSeat) (m : MemorySeat) (p p' : PoolSeat) (wanted known : ℕ)
     (wanted_is : wanted ≡ cond (is_drained a.finish) a.sent 0) (answered : (is_drained a.finish && nat_lt a.received a.owed) ≡ false) where
   wanted_all : wanted ≡ cond (is_drained a.finish) (length (sent a.log.items)) 0
   wanted_all = wanted_is ∙ ap (λ n. cond (is_drained a.finish) n 0) k.counted.sent
@@ -114,7 +92,7 @@ module _ (a : Inside) (k : IsKept a) (running : a.closed ≡ false) (i : IntakeS
   -- ---- still open
 
   module _ (t : HasNotClosed a.hands wanted a.fronts.memory a.intake_seat i a.memory_seat m p p' known) where
-    pub open_kept : IsKept (record a { fronts = record { device = a.fronts.device; memory = known }; intake_seat = i; memory_seat = m })
+    pub open_kept : IsClientKept (record a { fronts = record { device = a.fronts.device; memory = known }; intake_seat = i; memory_seat = m })
     open_kept = record {
       client = subst (λ (x : TableId). IsClient (record (client_state a) { plan = at_books (client_state a).plan x (seat_book m); fronts = record { device = a.fronts.device; memory = known }; intake_seat = i; memory_seat = m })) (sym t.turn.seat.0.0)
           (subst (λ (x : TableId). IsClient (record (client_state a) { plan = at_books (client_state a).plan (seat_book a.intake_seat) x; fronts = record { device = a.fronts.device; memory = known }; intake_seat = i; memory_seat = m })) (sym t.same.0.0)
@@ -140,14 +118,14 @@ module _ (a : Inside) (k : IsKept a) (running : a.closed ≡ false) (i : IntakeS
 
   -- ---- closed
 
-  module _ (t : HasClosed a.hands wanted a.fronts.memory a.intake_seat i a.memory_seat m p p' known) where
-    over : IsOver a.finish a.log.items (seen_by i) (seen_by m)
+  module _ (t : HasClosedSession a.hands wanted a.fronts.memory a.intake_seat i a.memory_seat m p p' known) where
+    over : IsSessionOver a.finish a.log.items (seen_by i) (seen_by m)
     over = is_over (client_state a) k.client running i m p p' wanted known t (λ d. wanted_all ∙ ap (λ b. cond b (length (sent a.log.items)) 0) d) (λ d. enough d)
       where
         enough : is_drained a.finish ≡ true → owed_count a.log.items ≤ length (received a.log.items)
         enough d = ltb-false (length (received a.log.items)) (owed_count a.log.items) (ap (λ b. b && nat_lt (length (received a.log.items)) (owed_count a.log.items)) (sym d) ∙ answered_all)
 
-    pub abort_kept : is_aborted a.finish ≡ true → IsKept (record a { closed = true; fronts = record { device = a.fronts.device; memory = known }; intake_seat = i; memory_seat = m })
+    pub abort_kept : is_aborted a.finish ≡ true → IsClientKept (record a { closed = true; fronts = record { device = a.fronts.device; memory = known }; intake_seat = i; memory_seat = m })
     abort_kept aborted = record {
       client = subst (λ (x : TableId). IsClient (record (client_state a) { plan = at_books (client_state a).plan x (seat_book m); closed = true; fronts = record { device = a.fronts.device; memory = known }; intake_seat = i; memory_seat = m })) (sym t.turn.seat.0.0)
           (subst (λ (x : TableId). IsClient (record (client_state a) { plan = at_books (client_state a).plan (seat_book a.intake_seat) x; closed = true; fronts = record { device = a.fronts.device; memory = known }; intake_seat = i; memory_seat = m })) (sym t.released.visit.seat.0.0)
@@ -156,7 +134,7 @@ module _ (a : Inside) (k : IsKept a) (running : a.closed ≡ false) (i : IntakeS
       closing = k.closing;
     }
 
-    pub drain_kept : (l : SwitchedLog Event) → l ≡ record a.log { items = a.log.items ++ Drained ∷ [] } → is_drained a.finish ≡ true → IsKept (record a { log = l; closed = true; fronts = record { device = a.fronts.device; memory = known }; intake_seat = i; memory_seat = m })
+    pub drain_kept : (l : SwitchedLog Event) → l ≡ record a.log { items = a.log.items ++ Drained ∷ [] } → is_drained a.finish ≡ true → IsClientKept (record a { log = l; closed = true; fronts = record { device = a.fronts.device; memory = known }; intake_seat = i; memory_seat = m })
     drain_kept l log_is drained =
         let items : l.items ≡ a.log.items ++ Drained ∷ [] = ap (λ (x : SwitchedLog Event). x.items) log_is in
         record {

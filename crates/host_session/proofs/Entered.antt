@@ -3,34 +3,14 @@ use Rattle.std.proofs.Common.{◌≡◌, ℕ, suc, ◌+◌, ◌*◌, ◌≤◌, 
 use Rattle.std.specs.List.{list_all}
 use Rattle.std.specs.Option.{unwrap_or}
 use Rattle.atomic_table.specs.Seated.{TableId}
-use Rattle.host_log.specs.Switch.{SwitchedLog}
-use Rattle.host_intake.specs.State.{MemorySeat}
-use Rattle.host_memory.specs.declared.limits.MemoryPlan.{MemoryPlan}
-use Rattle.host_memory.specs.Entries.{is_attach, is_fill_or_show, used_room}
-use Rattle.host_memory.specs.Numbers.{is_numbered}
-use Rattle.host_memory.specs.State.{MemoryState, admissions_of, client_of, events, history}
-use Rattle.host_model.specs.declared.event.Event.{Event}
-use Rattle.host_model.specs.declared.event.Event.TheVariants.{Attached, NotAttached, Filled, Shown, Sent, Received, Drained, Aborted}
-use Rattle.host_model.specs.declared.memory.MemEntry.{MemEntry}
-use Rattle.host_model.specs.declared.memory.MemEvent.{MemEvent}
-use Rattle.host_model.specs.declared.memory.MemEvent.TheVariants.{Attach, Fill, Show, Pin, Lift, Land, Done, Release}
+use Rattle.host_log.specs.{SwitchedLog, Continues, entries_of}
+use Rattle.host_intake.specs.{MemorySeat}
+use Rattle.host_memory.specs.{MemoryPlan, is_attach_entry, is_fill_or_show, used_room, is_numbered, MemoryState, admissions_of, client_of, events, history}
+use Rattle.host_model.specs.{Event, Attached, NotAttached, Filled, Shown, Sent, Received, Drained, Aborted, MemEntry, MemEvent, Attach, Fill, Show, Pin, Lift, Land, Done, Release, entry_after, is_client, told, owed, count, map_after, given, received, received_bytes, sent, sent_bytes, is_end}
 use Rattle.host_model.specs.declared.memory.MemEvent.TheVariants as mem
-use Rattle.host_model.specs.ClientEntries.{entry_after, is_client, told}
-use Rattle.host_model.specs.Groups.{owed}
-use Rattle.host_model.specs.Lists.{count, map_after}
-use Rattle.host_model.specs.Log.{given, received, received_bytes, sent, sent_bytes}
-use Rattle.host_model.specs.Taking.{is_end}
-use Rattle.host_turn.specs.History.{Continues, entries_of}
-use Rattle.host_turn.specs.Seats.{IsOutside, IsSameSeat, fixed_part, number, seat_book, seen_by}
+use Rattle.host_turn.specs.{IsOutside, IsSameSeat, fixed_part, number, seat_book, seen_by}
 use Rattle.host_session.specs.declared.client.ClientEnd.TheInside.{Inside}
-use Rattle.host_session.specs.Calls.{with_event, with_visit}
-use Rattle.host_session.specs.Client.{room_left}
-use Rattle.host_session.specs.ClientFields.{IsKept, client_state}
-use Rattle.host_session.specs.Endings.{owed_count}
-use Rattle.host_session.specs.Kept.{IsClient}
-use Rattle.host_session.specs.Plan.{SessionPlan, id_limit, memory_plan}
-use Rattle.host_session.specs.Told.{IsTold}
-use Rattle.host_session.specs.Visits.{IsVisit}
+use Rattle.host_session.specs.{with_event, with_visit, room_left, IsClientKept, client_state, owed_count, IsClient, SessionPlan, id_limit, memory_plan, IsClientTold, IsVisit}
 use Rattle.host_session.proofs.Requests.{requests_quiet}
 use Rattle.host_session.proofs.Snoc.{found_none}
 use Rattle.host_session.proofs.Turning.{same_seat}
@@ -52,7 +32,7 @@ counted_client p all (e ∷ h) = at (is_client e) (p e) (all e) refl (counted_cl
     at false true f is ih = absurd (cc (f refl))
     at false false f is ih = ih
 
-attach_is : (e : MemEvent) → is_attach e ≡ true → is_client e ≡ true
+attach_is : (e : MemEvent) → is_attach_entry e ≡ true → is_client e ≡ true
 attach_is (Attach id pages from) p = refl
 attach_is (Fill id block cnt byte) p = absurd (cc p)
 attach_is (Show id block cnt) p = absurd (cc p)
@@ -76,7 +56,7 @@ fill_is (Release id) p = absurd (cc p)
 
 -- an attach for each buffer given, and no more fills and shows than other events
 record IsUsed (h : List MemEvent) (log : List Event) : Type 0 where
-  attaches : count is_attach h ≡ length (given log)
+  attaches : count is_attach_entry h ≡ length (given log)
   others : count is_fill_or_show h + length (given log) ≤ count (λ e. not (is_end e)) log
 
 used_told : (before log : List Event) → IsUsed (map_after entry_after before log) log
@@ -92,11 +72,11 @@ used_told before (Shown id block cnt false bytes ∷ log) = let u = used_told (b
 used_told before (Drained ∷ log) = let u = used_told (before ++ Drained ∷ []) log in record { attaches = u.attaches; others = u.others }
 used_told before (Aborted ∷ log) = let u = used_told (before ++ Aborted ∷ []) log in record { attaches = u.attaches; others = u.others }
 
-used_by : (c size : ℕ) (log : List Event) (h : List MemEntry) → IsTold c size log h → IsUsed (events h) log
+used_by : (c size : ℕ) (log : List Event) (h : List MemEntry) → IsClientTold c size log h → IsUsed (events h) log
 used_by c size log h t =
     let u : IsUsed (told log) log = used_told [] log in
     record {
-      attaches = sym (counted_client is_attach attach_is (events h)) ∙ (ap (count is_attach) t.entries ∙ u.attaches);
+      attaches = sym (counted_client is_attach_entry attach_is (events h)) ∙ (ap (count is_attach_entry) t.entries ∙ u.attaches);
       others = omega (arith, counted_client is_fill_or_show fill_is (events h), ap (count is_fill_or_show) t.entries, u.others);
     }
 
@@ -105,7 +85,7 @@ some_same x y e = ap (λ o. unwrap_or o x) e
 
 -- ---- inside
 
-module _ (a : Inside) (k : IsKept a) (mid : MemorySeat) (m : MemoryState) (same : IsSameSeat a.memory_seat mid) (story : m.entries ≡ seen_by mid)
+module _ (a : Inside) (k : IsClientKept a) (mid : MemorySeat) (m : MemoryState) (same : IsSameSeat a.memory_seat mid) (story : m.entries ≡ seen_by mid)
     (later : Continues (λ (e : MemEntry). e.hand) (number a.memory_seat) (seen_by a.memory_seat) (seen_by mid)) (fixed : fixed_part mid ≡ Some m.plan) (past : a.fronts.memory ≤ length m.entries)
     (numbers : IsTrue (list_all (is_numbered (client_of m) (admissions_of m)) m.entries)) where
   pub plan_is : m.plan ≡ memory_plan (client_state a).plan
@@ -120,7 +100,7 @@ module _ (a : Inside) (k : IsKept a) (mid : MemorySeat) (m : MemoryState) (same 
   pub visit : (q : MemorySeat) (own : List MemEntry) → IsSameSeat mid q × IsOutside q → seen_by q ≡ m.entries ++ own → IsVisit a.fronts.memory a.memory_seat q m.entries own
   visit q own out left = record { seat = (same_seat a.memory_seat mid q same out.0, out.1); later = goes_on; past = past; left = left }
 
-  pub told_inside : IsTold a.hands a.spec.size a.log.items m.entries
+  pub told_inside : IsClientTold a.hands a.spec.size a.log.items m.entries
   told_inside = told_found (client_state a) k.client mid m.entries numbered goes_on.0.0 goes_on.0.1
       (subst (λ (n : ℕ). entries_of (λ x. x.hand) n m.entries ≡ entries_of (λ x. x.hand) n (seen_by a.memory_seat)) k.client.memory_seat.number_is goes_on.1)
 
@@ -137,7 +117,7 @@ module _ (a : Inside) (k : IsKept a) (mid : MemorySeat) (m : MemoryState) (same 
       let p : m.plan.limits.room ≡ 3 * id_limit a.spec + a.spec.events = ap (λ (x : MemoryPlan). x.limits.room) plan_is in
       omega (arith, u.attaches, u.others, room, few, p)
 
-  pub given_so_far : count is_attach (history m) ≡ length (given a.log.items)
+  pub given_so_far : count is_attach_entry (history m) ≡ length (given a.log.items)
   given_so_far = (used_by a.hands a.spec.size a.log.items m.entries told_inside).attaches
 
 -- ---- the fields, once the client has left
@@ -153,9 +133,9 @@ module _ (a : Inside) (q : MemorySeat) (ev : Event) (book : seat_book q ≡ seat
       ∙ (ap (λ (n : ℕ). client_state (record a { log = record a.log { items = a.log.items ++ ev ∷ [] }; given = given'; fronts = record { device = a.fronts.device; memory = n }; memory_seat = q })) front_is
       ∙ ap (λ (b : TableId). record (with_event (with_visit (client_state a) q) ev) { plan = at_memory (client_state a).plan b }) book)
 
-module _ (a : Inside) (k : IsKept a) (q : MemorySeat) (ev : Event) (is : IsClient (with_event (with_visit (client_state a) q) ev)) (book : seat_book q ≡ seat_book a.memory_seat) where
+module _ (a : Inside) (k : IsClientKept a) (q : MemorySeat) (ev : Event) (is : IsClient (with_event (with_visit (client_state a) q) ev)) (book : seat_book q ≡ seat_book a.memory_seat) where
   pub visit_kept : (l : SwitchedLog Event) (front given' : ℕ) → l ≡ record a.log { items = a.log.items ++ ev ∷ [] } → front ≡ length (seen_by q) → sent_bytes ev ≡ None → received_bytes ev ≡ None → given' ≡ length (given (a.log.items ++ ev ∷ []))
-      → IsKept (record a { log = l; given = given'; fronts = record { device = a.fronts.device; memory = front }; memory_seat = q })
+      → IsClientKept (record a { log = l; given = given'; fronts = record { device = a.fronts.device; memory = front }; memory_seat = q })
   visit_kept l front given' log_is front_is sends receives given_is =
       let items : l.items ≡ a.log.items ++ ev ∷ [] = ap (λ (x : SwitchedLog Event). x.items) log_is in
       record {

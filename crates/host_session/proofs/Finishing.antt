@@ -1,33 +1,22 @@
 -- What is true of a client end stays true as it ends its session.
 use Rattle.std.proofs.Common.{◌≡◌, true, false, not, List, [], ◌∷◌, ◌++◌, length, filter, Some, None, refl, sym, ap, subst, ◌∙◌, arith}
 use Rattle.atomic_table.specs.Seated.{TableId}
-use Rattle.host_log.specs.Switch.{SwitchedLog}
-use Rattle.host_intake.specs.declared.entry.IntakeEntry.TheVariants.{Turned}
+use Rattle.host_log.specs.{SwitchedLog}
+use Rattle.host_intake.specs.{Turned}
 use Rattle.host_intake.specs.declared.entry.Phase.TheVariants as phase
-use Rattle.host_model.specs.declared.event.Event.{Event}
-use Rattle.host_model.specs.declared.event.Event.TheVariants.{Aborted}
-use Rattle.host_model.specs.Lists.{all_with_before, below}
-use Rattle.host_model.specs.Log.{given, given_id, received, received_bytes, sent, sent_bytes, sent_index}
-use Rattle.host_model.specs.Groups.{owed}
-use Rattle.host_model.specs.Taking.{is_end, runs_out_rightly}
+use Rattle.host_model.specs.{Event, Aborted, all_with_before, below, given, given_id, received, received_bytes, sent, sent_bytes, sent_index, owed, is_end, runs_out_rightly}
 use Rattle.host_model.proofs.Growth.{all_with_before-push}
 use Rattle.host_model.proofs.ListTests.{and-from}
-use Rattle.host_record.specs.declared.finish.Finish.TheVariants.{Drain, Abort}
-use Rattle.host_turn.specs.Seats.{seat_book, seen_by}
+use Rattle.host_record.specs.{Drain, Abort}
+use Rattle.host_turn.specs.{seat_book, seen_by}
 use Rattle.host_session.specs.declared.client.ClientEnd.TheInside.{Inside}
-use Rattle.host_session.specs.declared.spec.SessionSpec.{SessionSpec}
-use Rattle.host_session.specs.Acts.{Act}
-use Rattle.host_session.specs.Client.{ClientState, IntakeSeat, ends_logged, turns_made}
-use Rattle.host_session.specs.ClientFields.{IsKept, client_state}
-use Rattle.host_session.specs.Closing.{HasTurned}
-use Rattle.host_session.specs.Endings.{owed_count}
+use Rattle.host_session.specs.{SessionSpec, Act, ClientState, IntakeSeat, ends_logged, turns_made, IsClientKept, client_state, HasTurned, owed_count, IsClient, IsLog, SessionPlan, intake_plan}
 use Rattle.host_session.proofs.Blocks.{turned_own}
-use Rattle.host_session.specs.Kept.{IsClient, IsLog}
-use Rattle.host_session.specs.Plan.{SessionPlan, intake_plan}
 use Rattle.host_session.proofs.Course.{course_quiet}
 use Rattle.host_session.proofs.Keeping.{none_late, told_quiet}
 use Rattle.host_session.proofs.Requests.{requests_quiet}
-use Rattle.host_session.proofs.Snoc.{filter_none, filter_one, found_none}
+use Rattle.host_session.proofs.Snoc.{found_none}
+use Rattle.host_memory.proofs.Pushed.{filter_add, filter_skip}
 use Rattle.host_session.proofs.Visiting.{seat_still}
 
 -- the event that ends a log sends and gives nothing
@@ -40,7 +29,7 @@ log_ended spec log e ends none none' gives rightly l =
       ids = all_with_before-push runs_out_rightly log e ∙ and-from (all_with_before runs_out_rightly log) (runs_out_rightly log e) l.ids rightly;
       records = omega (arith, ap length s, l.records);
       given = omega (arith, ap length g, l.given);
-      room = omega (arith, ap length (filter_none (λ x. not (is_end x)) log e (ap not ends)), l.room);
+      room = omega (arith, ap length (filter_skip (λ x. not (is_end x)) log e (ap not ends)), l.room);
     }
 
 module _ (s : ClientState) (k : IsClient s) (running : s.finish ≡ None) (q : IntakeSeat) where
@@ -88,7 +77,7 @@ module _ (s : ClientState) (k : IsClient s) (running : s.finish ≡ None) (q : I
         ended = record {
           first = λ e. absurd (cc e);
           turned = t.only ∙ ap (turns_made (Some Abort)) (sym closed);
-          logged = filter_one is_end s.log Aborted refl ∙ (ap (λ l. l ++ Aborted ∷ []) none_logged ∙ ap (ends_logged (Some Abort)) (sym closed));
+          logged = filter_add is_end s.log Aborted refl ∙ (ap (λ l. l ++ Aborted ∷ []) none_logged ∙ ap (ends_logged (Some Abort)) (sym closed));
           last = λ e. (s.log, refl);
           drained = λ e _. absurd (cc e);
           own = turned_own s.plan.hands s.intake_seat q t.found (Turned s.plan.hands phase.Aborted ∷ []) t.turn k.intake_seat.number_is refl k.ended.own;
@@ -104,15 +93,15 @@ module _ (s : ClientState) (k : IsClient s) (running : s.finish ≡ None) (q : I
 abbrev pub at_intake : SessionPlan → TableId → SessionPlan
 at_intake p book = record p { intake = book }
 
-module _ (a : Inside) (k : IsKept a) (running : a.finish ≡ None) (q : IntakeSeat) (same : seat_book q ≡ seat_book a.intake_seat) where
-  pub draining_kept : HasTurned a.hands phase.Draining a.intake_seat q → IsKept (record a { finish = Some Drain; intake_seat = q })
+module _ (a : Inside) (k : IsClientKept a) (running : a.finish ≡ None) (q : IntakeSeat) (same : seat_book q ≡ seat_book a.intake_seat) where
+  pub draining_kept : HasTurned a.hands phase.Draining a.intake_seat q → IsClientKept (record a { finish = Some Drain; intake_seat = q })
   draining_kept t = record {
     client = subst (λ (b : TableId). IsClient (record (client_state a) { plan = at_intake (client_state a).plan b; finish = Some Drain; intake_seat = q })) (sym same) (kept_draining (client_state a) k.client running q t);
     counted = record { sent = k.counted.sent; received = k.counted.received; given = k.counted.given; owed = k.counted.owed; room = k.counted.room; keeps = k.counted.keeps };
     closing = k.closing;
   }
 
-  pub aborted_kept : (l : SwitchedLog Event) → l ≡ record a.log { items = a.log.items ++ Aborted ∷ [] } → HasTurned a.hands phase.Aborted a.intake_seat q → IsKept (record a { log = l; finish = Some Abort; intake_seat = q })
+  pub aborted_kept : (l : SwitchedLog Event) → l ≡ record a.log { items = a.log.items ++ Aborted ∷ [] } → HasTurned a.hands phase.Aborted a.intake_seat q → IsClientKept (record a { log = l; finish = Some Abort; intake_seat = q })
   aborted_kept l log_is t =
       let items : l.items ≡ a.log.items ++ Aborted ∷ [] = ap (λ (x : SwitchedLog Event). x.items) log_is in
       record {

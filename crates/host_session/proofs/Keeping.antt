@@ -3,29 +3,18 @@ use Rattle.std.proofs.Common.{◌≡◌, ℕ, zero, suc, ◌+◌, ◌-◌, ◌�
 use Rattle.std.proofs.Math.Bool.{or-true}
 use Rattle.std.specs.List.{list_any, slice_get, range_with_len}
 use Rattle.std.proofs.lemmas.Bool.{eq-eqb}
-use Rattle.host_intake.specs.declared.entry.IntakeEntry.{IntakeEntry}
-use Rattle.host_memory.specs.State.{events}
-use Rattle.host_model.specs.declared.event.Event.{Event}
-use Rattle.host_model.specs.declared.memory.MemEntry.{MemEntry}
-use Rattle.host_model.specs.ClientEntries.{entry_after}
-use Rattle.host_model.specs.Lists.{all_with_before, below, count}
-use Rattle.host_model.specs.Log.{given, given_id, sent, sent_bytes, sent_index}
-use Rattle.host_model.specs.Pages.{shown_bytes}
-use Rattle.host_model.specs.Taking.{is_end, runs_out_rightly}
+use Rattle.host_intake.specs.{IntakeEntry}
+use Rattle.host_memory.specs.{events}
+use Rattle.host_model.specs.{Event, MemEntry, entry_after, all_with_before, below, count, given, given_id, sent, sent_bytes, sent_index, shown_bytes, is_end, runs_out_rightly}
 use Rattle.host_model.proofs.Growth.{all_with_before-push}
 use Rattle.host_model.proofs.ListTests.{and-from}
-use Rattle.host_record.specs.declared.finish.Finish.{Finish}
-use Rattle.host_turn.specs.History.{entries_of}
-use Rattle.host_session.specs.declared.spec.SessionSpec.{SessionSpec}
-use Rattle.host_session.specs.Acts.{Act, AreLate, before_drained, fronts_after, is_drained}
-use Rattle.host_session.specs.Client.{is_aborted}
-use Rattle.host_session.specs.Client.{is_drained as is_drained_end}
-use Rattle.host_session.specs.Endings.{IsEndedSoFar, IsOver, is_received}
-use Rattle.host_session.specs.Kept.{IsLog}
-use Rattle.host_session.specs.Plan.{id_limit}
-use Rattle.host_session.specs.Told.{IsTold, is_release}
+use Rattle.host_record.specs.{Finish}
+use Rattle.host_log.specs.{entries_of}
+use Rattle.host_session.specs.{SessionSpec, Act, AreLate, before_drained, fronts_after, is_drain_act, is_aborted, is_drained as is_drained_end, IsEndedSoFar, IsSessionOver, is_receipt, IsLog, id_limit, IsClientTold, is_release}
 use Rattle.host_session.proofs.Blocks.{drained_more}
-use Rattle.host_session.proofs.Snoc.{below_more, filter_none, filter_one, found_none, found_one, told_none}
+use Rattle.host_session.proofs.Snoc.{found_none, found_one, told_none}
+use Rattle.host_intake.proofs.Counting.{below_more}
+use Rattle.host_memory.proofs.Pushed.{filter_add, filter_skip}
 
 -- ---- the log
 
@@ -35,7 +24,7 @@ one_more_fits events n h = omega (arith, h)
 
 module _ (spec : SessionSpec) (log : List Event) (l : IsLog spec log) (e : Event) where
   counted_more : is_end e ≡ false → count (λ x. not (is_end x)) (log ++ e ∷ []) ≡ count (λ x. not (is_end x)) log + 1
-  counted_more inner = ap length (filter_one (λ x. not (is_end x)) log e (ap not inner)) ∙ length-append (filter (λ x. not (is_end x)) log) (e ∷ [])
+  counted_more inner = ap length (filter_add (λ x. not (is_end x)) log e (ap not inner)) ∙ length-append (filter (λ x. not (is_end x)) log) (e ∷ [])
 
   -- an event that sends nothing and gives nothing
   pub log_quiet : is_end e ≡ false → sent_bytes e ≡ None → sent_index e ≡ None → given_id e ≡ None → runs_out_rightly log e ≡ true → count (λ x. not (is_end x)) log + 1 ≤ spec.events → IsLog spec (log ++ e ∷ [])
@@ -78,7 +67,7 @@ module _ (spec : SessionSpec) (log : List Event) (l : IsLog spec log) (e : Event
       }
 
 -- an event without an entry, an id or shown bytes
-pub told_quiet : (c size : ℕ) (log : List Event) (h : List MemEntry) (e : Event) → entry_after log e ≡ None → given_id e ≡ None → shown_bytes e ≡ None → IsTold c size log h → IsTold c size (log ++ e ∷ []) h
+pub told_quiet : (c size : ℕ) (log : List Event) (h : List MemEntry) (e : Event) → entry_after log e ≡ None → given_id e ≡ None → shown_bytes e ≡ None → IsClientTold c size log h → IsClientTold c size (log ++ e ∷ []) h
 told_quiet c size log h e none gives shows t = record {
   entries = t.entries ∙ sym (told_none entry_after log e none);
   ids = let g : given (log ++ e ∷ []) ≡ given log = found_none given_id log e gives in g ∙ (t.ids ∙ ap (λ x. range_with_len 1 (length x)) (sym g));
@@ -91,11 +80,11 @@ told_quiet c size log h e none gives shows t = record {
 
 -- an event while the session isn't closed, and wasn't aborted
 pub ended_quiet : (c : ℕ) (finish : Option Finish) (closed : Bool) (log : List Event) (es : List IntakeEntry) (h : List MemEntry) (e : Event) → is_end e ≡ false → is_aborted finish ≡ false
-    → (closed ≡ true → IsOver finish (log ++ e ∷ []) es h) → (is_drained_end finish ≡ true → closed ≡ true → is_received e ≡ true) → IsEndedSoFar c finish closed log es h → IsEndedSoFar c finish closed (log ++ e ∷ []) es h
+    → (closed ≡ true → IsSessionOver finish (log ++ e ∷ []) es h) → (is_drained_end finish ≡ true → closed ≡ true → is_receipt e ≡ true) → IsEndedSoFar c finish closed log es h → IsEndedSoFar c finish closed (log ++ e ∷ []) es h
 ended_quiet c finish closed log es h e inner not_aborted over follows t = record {
   first = t.first;
   turned = t.turned;
-  logged = filter_none is_end log e inner ∙ t.logged;
+  logged = filter_skip is_end log e inner ∙ t.logged;
   last = λ a. absurd (cc (sym a ∙ not_aborted));
   drained = λ d b. drained_more log e (follows d b) (t.drained d b);
   own = t.own;
@@ -123,16 +112,16 @@ own_stands c (suc n) (x ∷ h) e at by is = later (x.hand == c) (own_stands c n 
 pub none_late : (c : ℕ) (es : List IntakeEntry) (h : List MemEntry) (acts : List Act) → list_any is_release (events (entries_of (λ e. e.hand) c h)) ≡ false → AreLate c es h acts
 none_late c es h acts none n e at by is = absurd (cc (sym none ∙ own_stands c n h e at by is))
 
-pub drained_before : (acts more : List Act) → list_any is_drained acts ≡ true → before_drained (acts ++ more) ≡ before_drained acts
+pub drained_before : (acts more : List Act) → list_any is_drain_act acts ≡ true → before_drained (acts ++ more) ≡ before_drained acts
 drained_before [] more d = absurd (cc d)
-drained_before (a ∷ acts) more d = at (is_drained a) d (drained_before acts more)
+drained_before (a ∷ acts) more d = at (is_drain_act a) d (drained_before acts more)
   where
-    at : (b : Bool) → (b || list_any is_drained acts) ≡ true → (list_any is_drained acts ≡ true → before_drained (acts ++ more) ≡ before_drained acts)
+    at : (b : Bool) → (b || list_any is_drain_act acts) ≡ true → (list_any is_drain_act acts ≡ true → before_drained (acts ++ more) ≡ before_drained acts)
         → cond b [] (a ∷ before_drained (acts ++ more)) ≡ cond b [] (a ∷ before_drained acts)
     at true e ih = refl
     at false e ih = ap (λ l. a ∷ l) (ih e)
 
 -- acts after a drain change nothing of what comes before it
-pub late_still : (c : ℕ) (es : List IntakeEntry) (h : List MemEntry) (acts more : List Act) → list_any is_drained acts ≡ true → AreLate c es h acts → AreLate c es h (acts ++ more)
+pub late_still : (c : ℕ) (es : List IntakeEntry) (h : List MemEntry) (acts more : List Act) → list_any is_drain_act acts ≡ true → AreLate c es h acts → AreLate c es h (acts ++ more)
 late_still c es h acts more d late n e at by is =
     let t = late n e at by is in (subst (λ l. (fronts_after l).memory ≤ n) (sym (drained_before acts more d)) t.0, t.1)

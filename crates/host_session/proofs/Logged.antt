@@ -1,27 +1,12 @@
 -- The fields of a client end, once a call that doesn't visit the buffers changed them.
 use Rattle.std.proofs.Common.{◌≡◌, ℕ, ◌+◌, ◌≤◌, ◌<◌, Bool, true, false, cond, IsTrue, List, [], ◌∷◌, ◌++◌, length, Option, Some, None, is_some, refl, sym, ap, subst, ◌∙◌, arith, length-append}
 use Rattle.std.proofs.lemmas.List.{length-map}
-use Rattle.host_log.specs.Switch.{SwitchedLog}
-use Rattle.host_record.specs.declared.finish.Finish.{Finish}
-use Rattle.host_record.specs.declared.finish.Finish.TheVariants.{Drain, Abort}
-use Rattle.host_record.specs.Request.{request_of}
-use Rattle.host_model.specs.declared.event.AttachError.{AttachError}
-use Rattle.host_model.specs.declared.event.Event.{Event}
-use Rattle.host_model.specs.declared.event.Event.TheVariants.{NotAttached, Sent, Received}
-use Rattle.host_model.specs.Groups.{is_owing, owed}
-use Rattle.host_model.specs.Log.{given, given_id, received, received_bytes, requests, sent, sent_bytes}
-use Rattle.host_model.specs.Taking.{is_end, runs_out_rightly}
-use Rattle.host_rings.specs.declared.slip.Slip.{Slip}
-use Rattle.host_rings.specs.AnswerEnds.{SlipTakerState}
-use Rattle.host_rings.specs.RequestEnds.{SenderState, with_pushed}
+use Rattle.host_log.specs.{SwitchedLog}
+use Rattle.host_record.specs.{Finish, Drain, Abort, request_of}
+use Rattle.host_model.specs.{AttachError, Event, NotAttached, Sent, Received, is_owing, owed, given, given_id, received, received_bytes, requests, sent, sent_bytes, is_end, runs_out_rightly}
+use Rattle.host_rings.specs.{Slip, SlipTakerState, SenderState, with_pushed}
 use Rattle.host_session.specs.declared.client.ClientEnd.TheInside.{Inside}
-use Rattle.host_session.specs.declared.fronts.Fronts.{Fronts}
-use Rattle.host_session.specs.Acts.{is_answer, next_envelope}
-use Rattle.host_session.specs.Calls.{with_slips}
-use Rattle.host_session.specs.Client.{ends_logged, greater, is_aborted, room_left, slip_fronts}
-use Rattle.host_session.specs.ClientFields.{IsKept, client_state}
-use Rattle.host_session.specs.Endings.{owed_count}
-use Rattle.host_session.specs.Kept.{IsClient}
+use Rattle.host_session.specs.{Fronts, is_answer, next_envelope, with_slips, ends_logged, greater, is_aborted, room_left, slip_fronts, IsClientKept, client_state, owed_count, IsClient}
 use Rattle.host_session.proofs.Clients.{kept_received, kept_refused, kept_sent, kept_thrown}
 use Rattle.host_session.proofs.Requests.{owed_few, owed_more, requests_quiet, requests_sent}
 use Rattle.host_session.proofs.Snoc.{found_none, found_one}
@@ -37,7 +22,7 @@ one_end (Some Abort) closed = omega arith
 one_end (Some Drain) false = omega arith
 one_end (Some Drain) true = omega arith
 
-module _ (a : Inside) (k : IsKept a) where
+module _ (a : Inside) (k : IsClientKept a) where
   -- an event more fits into the log
   pub log_fits : 1 ≤ room_left (client_state a) → length a.log.items < a.log.room
   log_fits room = omega (arith, room, k.counted.room, count_split is_end a.log.items, ap length k.client.ended.logged, one_end a.finish a.closed)
@@ -54,7 +39,7 @@ module _ (a : Inside) (k : IsKept a) where
       → l ≡ record a.log { items = a.log.items ++ Sent a.sent bytes ∷ [] }
       → q ≡ with_pushed a.sender (record { bytes = bytes; index = a.sent; device_front = a.fronts.device; memory_front = a.fronts.memory })
       → owed' ≡ a.owed + cond (is_owing (request_of bytes)) 1 0
-      → IsKept (record a { log = l; sent = a.sent + 1; owed = owed'; sender = q })
+      → IsClientKept (record a { log = l; sent = a.sent + 1; owed = owed'; sender = q })
   sent_kept bytes l q owed' running few room log_is sender_is owed_is =
       let n : ℕ = length (sent a.log.items) in
       let e : Event = Sent a.sent bytes in
@@ -81,7 +66,7 @@ module _ (a : Inside) (k : IsKept a) where
   -- an answer was received
   pub received_kept : (thrown : List Slip) (slip : Slip) (l : SwitchedLog Event) (f : Fronts) (t : SlipTakerState) → is_aborted a.finish ≡ false → IsTrue (is_answer a.sent slip) → 1 ≤ room_left (client_state a)
       → l ≡ record a.log { items = a.log.items ++ Received slip.bytes ∷ [] } → f ≡ greater a.fronts (slip_fronts slip) → t ≡ with_slips a.taker (thrown ++ slip ∷ [])
-      → IsKept (record a { log = l; received = a.received + 1; fronts = f; taker = t })
+      → IsClientKept (record a { log = l; received = a.received + 1; fronts = f; taker = t })
   received_kept thrown slip l f t not_aborted answers room log_is fronts_are taker_is =
       let e : Event = Received slip.bytes in
       let items : l.items ≡ a.log.items ++ e ∷ [] = ap (λ (x : SwitchedLog Event). x.items) log_is in
@@ -103,7 +88,7 @@ module _ (a : Inside) (k : IsKept a) where
       }
 
   -- slips were thrown away
-  pub thrown_kept : (thrown : List Slip) (t : SlipTakerState) → t ≡ with_slips a.taker thrown → IsKept (record a { taker = t })
+  pub thrown_kept : (thrown : List Slip) (t : SlipTakerState) → t ≡ with_slips a.taker thrown → IsClientKept (record a { taker = t })
   thrown_kept thrown t taker_is = record {
     client = subst (λ (x : SlipTakerState). IsClient (client_state (record a { taker = x }))) (sym taker_is) (kept_thrown (client_state a) k.client thrown);
     counted = record { sent = k.counted.sent; received = k.counted.received; given = k.counted.given; owed = k.counted.owed; room = k.counted.room; keeps = k.counted.keeps };
@@ -112,7 +97,7 @@ module _ (a : Inside) (k : IsKept a) where
 
   -- an attach was refused
   pub refused_kept : (pages : ℕ) (cause : AttachError) (l : SwitchedLog Event) → a.finish ≡ None → runs_out_rightly a.log.items (NotAttached pages cause) ≡ true → 1 ≤ room_left (client_state a)
-      → l ≡ record a.log { items = a.log.items ++ NotAttached pages cause ∷ [] } → IsKept (record a { log = l })
+      → l ≡ record a.log { items = a.log.items ++ NotAttached pages cause ∷ [] } → IsClientKept (record a { log = l })
   refused_kept pages cause l running rightly room log_is =
       let e : Event = NotAttached pages cause in
       let items : l.items ≡ a.log.items ++ e ∷ [] = ap (λ (x : SwitchedLog Event). x.items) log_is in

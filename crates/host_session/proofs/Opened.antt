@@ -2,40 +2,19 @@
 use Rattle.std.proofs.Common.{◌≡◌, ℕ, ◌+◌, ◌<◌, Bool, false, List, [], length, map, slice_index_or, All, Option, None, Some, refl, sym, ap, subst, ◌∙◌, arith}
 use Rattle.std.proofs.lemmas.List.{get_or-map, length-map}
 use Rattle.atomic_table.specs.Seated.{TableId}
-use Rattle.host_frames.specs.Seats.{pool_id}
-use Rattle.host_group.specs.declared.seat.CellSeat.{CellSeat}
-use Rattle.host_group.specs.Seats.{seat_cells}
-use Rattle.host_intake.specs.declared.entry.IntakeEntry.{IntakeEntry}
-use Rattle.host_intake.specs.declared.plan.IntakePlan.{IntakePlan}
-use Rattle.host_intake.specs.State.{IntakeState, MemorySeat, plan_of}
-use Rattle.host_model.specs.declared.event.Event.{Event}
-use Rattle.host_model.specs.declared.memory.MemEntry.{MemEntry}
-use Rattle.host_model.specs.Log.{given, received, sent}
-use Rattle.host_record.specs.declared.finish.Finish.{Finish}
-use Rattle.host_rings.specs.declared.envelope.Envelope.{Envelope}
-use Rattle.host_rings.specs.declared.slip.Slip.{Slip}
-use Rattle.host_rings.specs.AnswerEnds.{AreFresh, SlipSenderState, slip_sender_of}
-use Rattle.host_rings.specs.Places.{EachPlace}
-use Rattle.host_rings.specs.RequestEnds.{TakerState}
-use Rattle.host_turn.specs.declared.seat.BookSeat.{BookSeat}
-use Rattle.host_turn.specs.Seats.{IsNewSeat, number, seat_book, seen_by}
+use Rattle.host_frames.specs.{pool_id}
+use Rattle.host_group.specs.{CellSeat, seat_cells}
+use Rattle.host_intake.specs.{IntakeEntry, IntakePlan, IntakeState, MemorySeat, plan_of_intake}
+use Rattle.host_model.specs.{Event, MemEntry, given, received, sent}
+use Rattle.host_record.specs.{Finish}
+use Rattle.host_rings.specs.{Envelope, Slip, AreFresh, SlipSenderState, slip_sender_of, EachPlace, TakerState}
+use Rattle.host_turn.specs.{BookSeat, IsNewSeat, number, seat_book, seen_by}
 use Rattle.host_session.specs.declared.client.ClientEnd.TheInside.{Inside}
-use Rattle.host_session.specs.declared.fronts.Fronts.{Fronts}
-use Rattle.host_session.specs.declared.hand.SessionHand.{SessionHand}
-use Rattle.host_session.specs.declared.shared.SessionShared.{SessionShared}
-use Rattle.host_session.specs.declared.spec.SessionSpec.{SessionSpec}
-use Rattle.host_session.specs.Acts.{AreLate, IsCourse}
-use Rattle.host_session.specs.Client.{ClientState}
-use Rattle.host_session.specs.ClientFields.{HasRoomFor, IsKept, client_state}
-use Rattle.host_session.specs.Endings.{IsEndedSoFar, owed_count}
-use Rattle.host_session.specs.Kept.{HasRings, IsClient, IsLog}
-use Rattle.host_session.specs.Opened.{IsDealt}
-use Rattle.host_session.specs.Plan.{AreAllHands, IsFresh, IsHand, IsSeatIn, IsShared, SessionPlan, intake_plan, memory_plan}
-use Rattle.host_session.specs.Told.{IsTold}
+use Rattle.host_session.specs.{Fronts, SessionHand, SessionShared, SessionSpec, AreLate, IsCourse, ClientState, HasRoomForHands, IsClientKept, client_state, IsEndedSoFar, owed_count, HasRings, IsClient, IsLog, IsDealt, AreAllHands, IsFreshHand, IsHand, IsSeatIn, IsShared, SessionPlan, intake_plan, memory_plan, IsClientTold}
 
 -- ---- a client end that has done nothing
 
-told_empty : (client size : ℕ) → IsTold client size [] []
+told_empty : (client size : ℕ) → IsClientTold client size [] []
 told_empty client size = record { entries = refl; ids = refl; shows = refl; found = refl; own = refl }
 
 ended_empty : (client : ℕ) → IsEndedSoFar client None false [] [] []
@@ -62,9 +41,9 @@ late_empty client es n e at by is = absurd (cc at)
 
 module _ (s : ClientState) (log : s.log ≡ []) (finish : s.finish ≡ None) (closed : s.closed ≡ false) (taken : seen_by s.intake_seat ≡ []) (done : seen_by s.memory_seat ≡ [])
     (pushed : s.sender.pushed ≡ []) (received : s.taker.taken ≡ []) where
-  new_told : IsTold s.plan.hands s.plan.spec.size s.log (seen_by s.memory_seat)
-  new_told = subst (λ (l : List Event). IsTold s.plan.hands s.plan.spec.size l (seen_by s.memory_seat)) (sym log)
-      (subst (λ (h : List MemEntry). IsTold s.plan.hands s.plan.spec.size [] h) (sym done) (told_empty s.plan.hands s.plan.spec.size))
+  new_told : IsClientTold s.plan.hands s.plan.spec.size s.log (seen_by s.memory_seat)
+  new_told = subst (λ (l : List Event). IsClientTold s.plan.hands s.plan.spec.size l (seen_by s.memory_seat)) (sym log)
+      (subst (λ (h : List MemEntry). IsClientTold s.plan.hands s.plan.spec.size [] h) (sym done) (told_empty s.plan.hands s.plan.spec.size))
 
   new_ended : IsEndedSoFar s.plan.hands s.finish s.closed s.log (seen_by s.intake_seat) (seen_by s.memory_seat)
   new_ended = subst (λ (f : Option Finish). IsEndedSoFar s.plan.hands f s.closed s.log (seen_by s.intake_seat) (seen_by s.memory_seat)) (sym finish)
@@ -97,7 +76,7 @@ module _ (s : ClientState) (log : s.log ≡ []) (finish : s.finish ≡ None) (cl
 -- the same by the fields
 pub new_kept : (a : Inside) → IsSeatIn (seat_book a.intake_seat) (intake_plan (client_state a).plan) a.hands a.intake_seat → IsSeatIn (seat_book a.memory_seat) (memory_plan (client_state a).plan) a.hands a.memory_seat
     → (pool_id a.pool.value).1 ≡ a.spec.size → a.sender.records ≡ a.spec.records → a.taker.senders ≡ a.hands → a.log.items ≡ [] → a.log.room ≡ a.spec.events + 1 → a.log.kept ≡ a.spec.keeps → (a.sent ≡ 0) × (a.received ≡ 0) × (a.given ≡ 0) × (a.owed ≡ 0)
-    → a.finish ≡ None → a.closed ≡ false → seen_by a.intake_seat ≡ [] → seen_by a.memory_seat ≡ [] → a.sender.pushed ≡ [] → a.taker.taken ≡ [] → HasRoomFor a.hands a.closing → IsKept a
+    → a.finish ≡ None → a.closed ≡ false → seen_by a.intake_seat ≡ [] → seen_by a.memory_seat ≡ [] → a.sender.pushed ≡ [] → a.taker.taken ≡ [] → HasRoomForHands a.hands a.closing → IsClientKept a
 new_kept a intake memory size records senders log room keeps numbers finish closed taken done pushed got closing = record {
   client = new_client (client_state a) log finish closed taken done pushed got intake memory size (record { sender = (refl, records); taker = (refl, senders) });
   counted = record {
@@ -122,9 +101,9 @@ planned p n ring memory cells = record { part = p.spec.part; size = p.spec.size;
 
 pub intake_plan_is : (p : SessionPlan) (o : IntakeState) (taker : TakerState) (admissions : MemorySeat) (cell_seat : CellSeat)
     → o ≡ record { part = p.spec.part; size = p.spec.size; room = p.spec.records; keeps = p.spec.keeps; entries = []; held = None; waiting = []; taker = taker; memory_seat = admissions; cell_seat = cell_seat }
-    → taker.ring ≡ p.requests → number admissions ≡ p.hands + 1 → seat_book admissions ≡ p.memory → seat_cells cell_seat ≡ p.cells → plan_of o ≡ intake_plan p
+    → taker.ring ≡ p.requests → number admissions ≡ p.hands + 1 → seat_book admissions ≡ p.memory → seat_cells cell_seat ≡ p.cells → plan_of_intake o ≡ intake_plan p
 intake_plan_is p o taker admissions cell_seat made ring num book cells =
-    ap plan_of made
+    ap plan_of_intake made
     ∙ (ap (λ (n : ℕ). planned p n taker.ring (seat_book admissions) (seat_cells cell_seat)) num
     ∙ (ap (λ (r : TableId). planned p (p.hands + 1) r (seat_book admissions) (seat_cells cell_seat)) ring
     ∙ (ap (λ (b : TableId). planned p (p.hands + 1) p.requests b (seat_cells cell_seat)) book
@@ -140,7 +119,7 @@ module _ (p : SessionPlan) (shared : SessionShared) (part : IsShared p shared) w
     sender = (ap (λ (x : SlipSenderState). x.ring) s, ap (λ (x : SlipSenderState). x.number) s);
   }
 
-  hand_fresh : (k : ℕ) (hand : SessionHand) → IsDealt shared.intake shared.memory k hand → hand.sender ≡ slip_sender_of p.answers p.spec.depth k [] → IsFresh hand
+  hand_fresh : (k : ℕ) (hand : SessionHand) → IsDealt shared.intake shared.memory k hand → hand.sender ≡ slip_sender_of p.answers p.spec.depth k [] → IsFreshHand hand
   hand_fresh k hand d s = record {
     intake = d.intake_seat.3 ∙ part.nothing.0;
     memory = d.memory_seat.3 ∙ part.nothing.1;
@@ -158,5 +137,5 @@ module _ (p : SessionPlan) (shared : SessionShared) (part : IsShared p shared) w
     pub all_hands : AreAllHands p all
     all_hands = (as_many ∙ count, λ k d lt. hand_is k (slice_index_or all k d) (each k d lt) (sender_at k d lt))
 
-    pub all_fresh : All IsFresh all
+    pub all_fresh : All IsFreshHand all
     all_fresh k d lt = hand_fresh k (slice_index_or all k d) (each k d lt) (sender_at k d lt)

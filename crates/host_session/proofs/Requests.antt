@@ -7,19 +7,11 @@ use Rattle.std.proofs.lemmas.List.FromFn.{length-range_with_len}
 use Rattle.std.proofs.Math.ListN.{get_or-append}
 use Rattle.std.proofs.Math.Seq.{get_or-append_seam}
 use Rattle.host_record.specs.declared.request.Request.{Request}
-use Rattle.host_record.specs.Request.{request_of}
-use Rattle.host_record.specs.Response.{response_bytes}
-use Rattle.host_record.specs.Status.{status_number}
-use Rattle.host_model.specs.declared.event.Event.{Event}
-use Rattle.host_model.specs.declared.event.Event.TheVariants.{Sent}
-use Rattle.host_model.specs.declared.row.TakenRow.{TakenRow}
-use Rattle.host_model.specs.Answers.{answer_bytes, first_failure}
-use Rattle.host_model.specs.Groups.{answered_by, answers_for, closings, instance_of, is_closing, is_member, is_owing, owed, same_instance}
-use Rattle.host_model.specs.Lists.{below}
-use Rattle.host_model.specs.Log.{received, received_bytes, request_at, requests, sent, sent_bytes}
-use Rattle.host_model.specs.Taking.{row_at}
-use Rattle.host_session.specs.Counting.{CountingHoldsBefore, due_records, times}
-use Rattle.host_session.proofs.Snoc.{below_more, found_none, found_one}
+use Rattle.host_record.specs.{request_of, response_bytes, status_number}
+use Rattle.host_model.specs.{Event, Sent, TakenRow, answer_bytes, first_failure, answered_by, answers_for, closings, instance_of, is_closing, is_member, is_owing, owed, same_instance, below, received, received_bytes, request_at, requests, sent, sent_bytes, row_at}
+use Rattle.host_session.specs.{CountingHoldsBefore, due_records, times}
+use Rattle.host_session.proofs.Snoc.{found_none, found_one}
+use Rattle.host_intake.proofs.Counting.{below_more}
 use Rattle.host_session.proofs.Times.{range_has, times-filter, times-take, times_one, times_self, count_split}
 
 -- tests that agree below a bound keep the same numbers
@@ -33,12 +25,12 @@ module _ (rs more : List Request) where
   pub request_before : (i : ℕ) → i < length rs → request_at (rs ++ more) i ≡ request_at rs i
   request_before i h = get_or-append rs more (request_of []) i h
 
-  instance_before : (k : ℕ) → k < length rs → instance_of (rs ++ more) k ≡ instance_of rs k
+  pub instance_before : (k : ℕ) → k < length rs → instance_of (rs ++ more) k ≡ instance_of rs k
   instance_before k h =
       ap (λ (r : Request). cond (is_member r) (Some (r.group, closings r.group (take k (rs ++ more)))) None) (request_before k h)
       ∙ ap (λ (l : List Request). cond (is_member (request_at rs k)) (Some ((request_at rs k).group, closings (request_at rs k).group l)) None) (take-append-le k rs more (omega (arith, h)))
 
-  answers_before : (i k : ℕ) → i < length rs → k < length rs → answers_for (rs ++ more) i k ≡ answers_for rs i k
+  pub answers_before : (i k : ℕ) → i < length rs → k < length rs → answers_for (rs ++ more) i k ≡ answers_for rs i k
   answers_before i k hi hk =
       ap (λ (r : Request). cond (is_member r) (is_closing r && same_instance (instance_of (rs ++ more) i) (instance_of (rs ++ more) k)) (i == k)) (request_before i hi)
       ∙ ap₂ (λ a b. cond (is_member (request_at rs i)) (is_closing (request_at rs i) && same_instance a b) (i == k)) (instance_before i hi) (instance_before k hk)

@@ -4,35 +4,18 @@ use Rattle.std.specs.List.{list_all, list_any, slice_get}
 use Rattle.std.proofs.lemmas.Bool.{eq-eqb, lt-ltb}
 use Rattle.std.proofs.lemmas.List.{map-append}
 use Rattle.std.proofs.lemmas.List.Folds.{list_all-append}
-use Rattle.host_intake.specs.declared.entry.IntakeEntry.{IntakeEntry}
-use Rattle.host_intake.specs.declared.entry.IntakeEntry.TheVariants.{Turned}
-use Rattle.host_intake.specs.declared.entry.Phase.{Phase}
+use Rattle.host_intake.specs.{IntakeEntry, Turned, Phase, landing_of, maker_of, taking_of, takings, IntakeState, MemorySeat, flights_in, is_ending, kept_slips, memory_front_in, seen_of, turns}
 use Rattle.host_intake.specs.declared.entry.Phase.TheVariants as phase
-use Rattle.host_intake.specs.Entries.{landing_of, maker_of, taking_of, takings}
-use Rattle.host_group.specs.Ends.{greatest}
-use Rattle.host_intake.specs.State.{IntakeState, MemorySeat}
-use Rattle.host_intake.specs.Told.{flights_in, is_ending, kept_slips, memory_front_in, seen_of, turns}
-use Rattle.host_memory.specs.Numbers.{is_numbered}
-use Rattle.host_frames.specs.declared.seat.PoolSeat.{PoolSeat}
-use Rattle.host_memory.specs.Pins.{pins_left}
-use Rattle.host_memory.specs.State.{events}
-use Rattle.host_model.specs.declared.event.Event.{Event}
-use Rattle.host_model.specs.declared.memory.MemEntry.{MemEntry}
-use Rattle.host_model.specs.declared.memory.MemEvent.TheVariants.{Release}
-use Rattle.host_model.specs.ClientEntries.{is_client}
-use Rattle.host_model.specs.Lists.{all_with_before, last, map_with_before}
-use Rattle.host_record.specs.declared.finish.Finish.{Finish}
-use Rattle.host_record.specs.declared.finish.Finish.TheVariants.{Drain, Abort}
-use Rattle.host_model.specs.Pages.{found_by}
-use Rattle.host_turn.specs.History.{Continues, entries_of}
-use Rattle.host_turn.proofs.Histories.{prefix_refl}
-use Rattle.host_turn.specs.Seats.{IsOutside, IsSameSeat, number, seen_by}
-use Rattle.host_session.specs.Acts.{Act, AreLate, before_drained, fronts_after, is_drained}
-use Rattle.host_session.specs.Client.{IntakeSeat, phase_for}
-use Rattle.host_session.specs.Closing.{FoundPin, HasClosed, HasNotClosed, HasReleased, IsClosedInTurn, IsOpenInTurn, is_landed, is_unfinished, releases_by}
-use Rattle.host_session.specs.Told.{IsTold, finds_blocks, is_by_client, is_release}
+use Rattle.host_group.specs.{greatest}
+use Rattle.host_memory.specs.{is_numbered, pins_left, events}
+use Rattle.host_frames.specs.{PoolSeat}
+use Rattle.host_model.specs.{Event, MemEntry, Release, is_client, all_with_before, last, map_with_before, found_by}
+use Rattle.host_record.specs.{Finish, Drain, Abort}
+use Rattle.host_log.specs.{Continues, entries_of}
+use Rattle.host_log.proofs.Histories.{prefix_refl}
+use Rattle.host_turn.specs.{IsOutside, IsSameSeat, number, seen_by}
+use Rattle.host_session.specs.{Act, AreLate, before_drained, fronts_after, is_drain_act, IntakeSeat, phase_for, FoundPin, HasClosedSession, HasNotClosed, HasReleasedIds, IsClosedInTurn, IsOpenInTurn, is_landed, is_unfinished, releases_by, IsClientTold, finds_blocks, is_by_client, is_release, IsVisit, entry_by}
 use Rattle.host_session.proofs.Blocks.{found_rest}
-use Rattle.host_session.specs.Visits.{IsVisit, entry_by}
 use Rattle.host_model.proofs.ListTests.{and-from}
 use Rattle.host_session.proofs.Keeping.{own_stands}
 use Rattle.host_session.proofs.Snoc.{filter_rest, found_none, told_rest}
@@ -66,7 +49,7 @@ all_by_client c [] = refl
 all_by_client c (v ∷ ids) = all_by_client c ids
 
 -- what the history tells of the log stays
-pub told_released : (c size : ℕ) (log : List Event) (h : List MemEntry) (ids : List ℕ) → IsTold c size log h → IsTold c size log (h ++ releases_by c ids)
+pub told_released : (c size : ℕ) (log : List Event) (h : List MemEntry) (ids : List ℕ) → IsClientTold c size log h → IsClientTold c size log (h ++ releases_by c ids)
 told_released c size log h ids t = record {
   entries = ap (filter is_client) (map-append (λ (e : MemEntry). e.what) h (releases_by c ids)) ∙ (filter_rest is_client (events h) (events (releases_by c ids)) (none_client c ids) ∙ t.entries);
   ids = t.ids;
@@ -87,19 +70,19 @@ slice_get_split (y ∷ xs) ys zero x e = inl e
 slice_get_split (y ∷ xs) ys (suc n) x e = ⊎_elim (λ t. inl t) (λ t. inr (omega (arith, t))) (slice_get_split xs ys n x e)
 
 -- before the session was closed
-pub all_before_drained : (acts : List Act) → list_any is_drained acts ≡ false → before_drained acts ≡ acts
+pub all_before_drained : (acts : List Act) → list_any is_drain_act acts ≡ false → before_drained acts ≡ acts
 all_before_drained [] e = refl
-all_before_drained (a ∷ acts) e = at (is_drained a) e (all_before_drained acts)
+all_before_drained (a ∷ acts) e = at (is_drain_act a) e (all_before_drained acts)
   where
-    at : (b : Bool) → (b || list_any is_drained acts) ≡ false → (list_any is_drained acts ≡ false → before_drained acts ≡ acts) → cond b [] (a ∷ before_drained acts) ≡ a ∷ acts
+    at : (b : Bool) → (b || list_any is_drain_act acts) ≡ false → (list_any is_drain_act acts ≡ false → before_drained acts ≡ acts) → cond b [] (a ∷ before_drained acts) ≡ a ∷ acts
     at true f ih = absurd (cc f)
     at false f ih = ap (λ l. a ∷ l) (ih f)
 
-pub before_this_drain : (acts : List Act) (a : Act) → list_any is_drained acts ≡ false → is_drained a ≡ true → before_drained (acts ++ a ∷ []) ≡ acts
+pub before_this_drain : (acts : List Act) (a : Act) → list_any is_drain_act acts ≡ false → is_drain_act a ≡ true → before_drained (acts ++ a ∷ []) ≡ acts
 before_this_drain [] a e d = ap (λ b. cond b [] (a ∷ [])) d
-before_this_drain (x ∷ acts) a e d = at (is_drained x) e (λ f. before_this_drain acts a f d)
+before_this_drain (x ∷ acts) a e d = at (is_drain_act x) e (λ f. before_this_drain acts a f d)
   where
-    at : (b : Bool) → (b || list_any is_drained acts) ≡ false → (list_any is_drained acts ≡ false → before_drained (acts ++ a ∷ []) ≡ acts) → cond b [] (x ∷ before_drained (acts ++ a ∷ [])) ≡ x ∷ acts
+    at : (b : Bool) → (b || list_any is_drain_act acts) ≡ false → (list_any is_drain_act acts ≡ false → before_drained (acts ++ a ∷ []) ≡ acts) → cond b [] (x ∷ before_drained (acts ++ a ∷ [])) ≡ x ∷ acts
     at true f ih = absurd (cc f)
     at false f ih = ap (λ l. x ∷ l) (ih f)
 
@@ -133,7 +116,7 @@ pub pins_decide : (wanted : ℕ) (es : List IntakeEntry) (h : List MemEntry) →
 pins_decide wanted es h e = landed_bits (nat_lt 0 (flights_in es)) (nat_lt 0 (length (kept_slips es))) (nat_lt 0 (length (pins_left (events h)))) (nat_lt (length (takings es)) wanted) e
 
 module _ (client wanted front f : ℕ) (s s' : IntakeState) (m m' : MemorySeat) (p p' : PoolSeat) (known : ℕ) (landed : is_landed wanted s.entries ≡ true) (f_is : f ≡ max front (memory_front_in s.entries)) (known_is : known ≡ length (seen_by m')) where
-  pub closed_in_turn : s' ≡ record s { entries = s.entries ++ Turned client phase.Closed ∷ [] } → HasReleased client f m m' p p' → IsClosedInTurn client wanted front s s' m m' p p' known
+  pub closed_in_turn : s' ≡ record s { entries = s.entries ++ Turned client phase.Closed ∷ [] } → HasReleasedIds client f m m' p p' → IsClosedInTurn client wanted front s s' m m' p p' known
   closed_in_turn left r = record {
     left = left;
     released = record {
@@ -190,7 +173,7 @@ ending_phase Abort ps e = ap (λ l. is_ending (last phase.Running l)) e
 pub attempt_answer : (client wanted front : ℕ) (i mid i' : IntakeSeat) (s n : IntakeState) (m m' : MemorySeat) (p p' : PoolSeat) (closed : Bool) (known : ℕ) → IsSameSeat i mid → s.entries ≡ seen_by mid
     → Continues maker_of (number i) (seen_by i) (seen_by mid) → turns s.entries ≡ turns (seen_by i) → IsSameSeat mid i' × IsOutside i' → seen_by i' ≡ n.entries
     → MatchBool closed (IsClosedInTurn client wanted front s n m m' p p' known) (IsOpenInTurn client wanted front s n m m' p p' known)
-    → MatchBool closed (HasClosed client wanted front i i' m m' p p' known) (HasNotClosed client wanted front i i' m m' p p' known)
+    → MatchBool closed (HasClosedSession client wanted front i i' m m' p p' known) (HasNotClosed client wanted front i i' m m' p p' known)
 attempt_answer client wanted front i mid i' s n m m' p p' true known same story later phases out left t = record {
   intake_found = s.entries;
   turned = ap turns (left ∙ ap (λ (x : IntakeState). x.entries) t.left) ∙ (turned_more client s.entries phase.Closed ∙ ap (λ l. l ++ phase.Closed ∷ []) phases);

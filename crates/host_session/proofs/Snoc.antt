@@ -1,31 +1,21 @@
 -- Lists to which one element was added.
-use Rattle.std.proofs.Common.{◌≡◌, ◌⊎◌, inl, inr, ⊎_elim, ℕ, zero, suc, ◌+◌, Bool, true, false, cond, List, [], ◌∷◌, ◌++◌, length, take, filter, filter_map, Option, Some, None, refl, sym, ap, subst, ◌∙◌, arith, append_assoc, append-nil}
+use Rattle.std.proofs.Common.{◌≡◌, ◌⊎◌, ⊎_elim, ℕ, suc, ◌+◌, Bool, true, false, cond, List, [], ◌∷◌, ◌++◌, length, take, filter, filter_map, Option, Some, None, refl, sym, ap, subst, ◌∙◌, arith, append_assoc, append-nil}
 use Rattle.std.specs.List.{slice_get, cons_option, range_with_len}
 use Rattle.std.proofs.lemmas.List.{take-append-le, take_at}
 use Rattle.std.proofs.lemmas.List.Elements.{filter-append, filter_map-append}
 use Rattle.std.proofs.lemmas.Option.{slice_get_within}
-use Rattle.host_model.specs.Lists.{below, map_after, map_with_before, places, places_from}
+use Rattle.host_model.specs.{map_after, map_with_before, places, places_from}
+use Rattle.host_log.proofs.Places.{get_snoc}
+use Rattle.host_intake.proofs.Counting.{snoc_from}
 
 module _ {A : Type 0} where
-  pub slice_get_snoc : (xs : List A) (x y : A) (n : ℕ) → slice_get (xs ++ x ∷ []) n ≡ Some y → (slice_get xs n ≡ Some y) ⊎ ((n ≡ length xs) × (x ≡ y))
-  slice_get_snoc [] x y zero e = inr (refl, cc)
-  slice_get_snoc [] x y (suc n) e = absurd (cc e)
-  slice_get_snoc (z ∷ xs) x y zero e = inl e
-  slice_get_snoc (z ∷ xs) x y (suc n) e = ⊎_elim (λ t. inl t) (λ t. inr (ap suc t.0, t.1)) (slice_get_snoc xs x y n e)
-
   -- what holds of each element with those before it holds with one more
   pub each_more : (P : List A → A → Type 0) (xs : List A) (x : A) → ((n : ℕ) (a : A) → slice_get xs n ≡ Some a → P (take n xs) a) → P xs x
       → (n : ℕ) (a : A) → slice_get (xs ++ x ∷ []) n ≡ Some a → P (take n (xs ++ x ∷ [])) a
   each_more P xs x each here n a e = ⊎_elim
       (λ t. subst (λ l. P l a) (sym (take-append-le n xs (x ∷ []) (omega (arith, slice_get_within xs n a t)))) (each n a t))
       (λ t. subst (λ l. P l a) (sym (ap (λ k. take k (xs ++ x ∷ [])) t.0 ∙ take_at xs (x ∷ []) (length xs) refl)) (subst (λ y. P xs y) t.1 here))
-      (slice_get_snoc xs x a n e)
-
-  pub filter_one : (p : A → Bool) (xs : List A) (x : A) → p x ≡ true → filter p (xs ++ x ∷ []) ≡ filter p xs ++ x ∷ []
-  filter_one p xs x e = filter-append p xs (x ∷ []) ∙ ap (λ b. filter p xs ++ cond b (x ∷ []) []) e
-
-  pub filter_none : (p : A → Bool) (xs : List A) (x : A) → p x ≡ false → filter p (xs ++ x ∷ []) ≡ filter p xs
-  filter_none p xs x e = filter-append p xs (x ∷ []) ∙ ap (λ b. filter p xs ++ cond b (x ∷ []) []) e ∙ append-nil (filter p xs)
+      (get_snoc xs x a n e)
 
   pub filter_rest : (p : A → Bool) (xs ys : List A) → filter p ys ≡ [] → filter p (xs ++ ys) ≡ filter p xs
   filter_rest p xs ys e = filter-append p xs ys ∙ (ap (λ l. filter p xs ++ l) e ∙ append-nil (filter p xs))
@@ -37,7 +27,7 @@ module _ {A B : Type 0} where
   pub found_none : (f : A → Option B) (xs : List A) (x : A) → f x ≡ None → filter_map f (xs ++ x ∷ []) ≡ filter_map f xs
   found_none f xs x e = filter_map-append f xs (x ∷ []) ∙ ap (λ o. filter_map f xs ++ cons_option o []) e ∙ append-nil (filter_map f xs)
 
-  map_after-append : (f : List A → A → Option B) (before xs ys : List A) → map_after f before (xs ++ ys) ≡ map_after f before xs ++ map_after f (before ++ xs) ys
+  pub map_after-append : (f : List A → A → Option B) (before xs ys : List A) → map_after f before (xs ++ ys) ≡ map_after f before xs ++ map_after f (before ++ xs) ys
   map_after-append f before [] ys = ap (λ l. map_after f l ys) (sym (append-nil before))
   map_after-append f before (x ∷ xs) ys = at (f before x) (map_after-append f (before ++ x ∷ []) xs ys ∙ ap (λ l. map_after f (before ++ x ∷ []) xs ++ map_after f l ys) (append_assoc before (x ∷ []) xs))
     where
@@ -91,13 +81,5 @@ module _ {A : Type 0} (p : A → Bool) where
   pub places_one : (xs : List A) (x : A) → p x ≡ true → places p (xs ++ x ∷ []) ≡ places p xs ++ length xs ∷ []
   places_one xs x e = places-append 0 xs (x ∷ []) ∙ (ap (λ b. places p xs ++ cond b ((0 + length xs) ∷ []) []) e ∙ ap (λ n. places p xs ++ n ∷ []) (omega arith))
 
--- the numbers below one more
-range_snoc : (a n : ℕ) → range_with_len a (suc n) ≡ range_with_len a n ++ (a + n) ∷ []
-range_snoc a zero = ap (λ k. k ∷ []) (omega arith)
-range_snoc a (suc n) = ap (λ l. a ∷ l) (range_snoc (a + 1) n ∙ ap (λ k. range_with_len (a + 1) n ++ k ∷ []) (omega arith))
-
-pub below_more : (n : ℕ) → below (n + 1) ≡ below n ++ n ∷ []
-below_more n = let e : n + 1 ≡ suc n = omega arith in ap (λ k. range_with_len 0 k) e ∙ (range_snoc 0 n ∙ ap (λ k. range_with_len 0 n ++ k ∷ []) (omega arith))
-
 pub ids_more : (n : ℕ) → range_with_len 1 (n + 1) ≡ range_with_len 1 n ++ (n + 1) ∷ []
-ids_more n = let e : n + 1 ≡ suc n = omega arith in ap (λ k. range_with_len 1 k) e ∙ (range_snoc 1 n ∙ ap (λ k. range_with_len 1 n ++ k ∷ []) (omega arith))
+ids_more n = let e : n + 1 ≡ suc n = omega arith in ap (λ k. range_with_len 1 k) e ∙ (snoc_from 1 n ∙ ap (λ k. range_with_len 1 n ++ k ∷ []) (omega arith))

@@ -4,11 +4,9 @@ use Rattle.std.specs.List.{list_all}
 use Rattle.std.proofs.lemmas.List.Folds.{list_all-append}
 use Rattle.host_model.proofs.ListTests.{and-from}
 use Rattle.host_record.specs.declared.response.Response.{Response}
-use Rattle.host_record.specs.Response.{response_of}
-use Rattle.host_rings.specs.declared.slip.Slip.{Slip}
-use Rattle.host_rings.specs.AnswerEnds.{SlipTakerState, with_slip_taken}
-use Rattle.host_session.specs.Acts.{is_answer}
-use Rattle.host_session.specs.Calls.{HasThrown, IsNextAnswer}
+use Rattle.host_record.specs.{response_of}
+use Rattle.host_rings.specs.{Slip, SlipTakerState, with_slip_taken}
+use Rattle.host_session.specs.{is_answer, HasThrown, IsNextAnswer}
 
 module _ (sent : ℕ) where
   pub thrown_none : (t : SlipTakerState) → HasThrown sent t t

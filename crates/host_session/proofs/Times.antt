@@ -5,9 +5,9 @@ use Rattle.std.proofs.lemmas.Bool.Decides.{nat_tests}
 use Rattle.std.proofs.lemmas.List.{take-append-drop}
 use Rattle.std.proofs.lemmas.List.Elements.{filter-append}
 use Rattle.std.specs.List.{range_with_len}
-use Rattle.host_model.specs.Lists.{count}
+use Rattle.host_model.specs.{count}
 use Rattle.host_model.proofs.Counts.{times-cons, times-without, length-without, length-counts, without}
-use Rattle.host_session.specs.Counting.{times}
+use Rattle.host_session.specs.{times}
 
 same : (n : ℕ) → nat_eq n n ≡ true
 same n = eq-eqb n n refl

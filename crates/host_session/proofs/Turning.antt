@@ -3,20 +3,11 @@ use Rattle.std.proofs.Common.{◌≡◌, ℕ, ◌+◌, Bool, true, false, cond, 
 use Rattle.std.specs.List.{cons_option, list_all}
 use Rattle.std.proofs.lemmas.Bool.{eqb-true, eq-eqb}
 use Rattle.std.proofs.lemmas.List.Folds.{list_all-append}
-use Rattle.host_intake.specs.declared.entry.IntakeEntry.{IntakeEntry}
-use Rattle.host_intake.specs.declared.entry.IntakeEntry.TheVariants.{Took, Landed, Passed, Turned}
-use Rattle.host_intake.specs.declared.entry.Phase.{Phase}
-use Rattle.host_intake.specs.declared.plan.IntakePlan.{IntakePlan}
-use Rattle.host_intake.specs.Entries.{maker_of}
-use Rattle.host_intake.specs.Intaken.{IsIntake, is_turned_below}
-use Rattle.host_intake.specs.State.{IntakeState, plan_of}
-use Rattle.host_intake.specs.Told.{turn_of, turns}
+use Rattle.host_intake.specs.{IntakeEntry, Took, Landed, Passed, Turned, Phase, IntakePlan, maker_of, IsIntake, is_turned_below, IntakeState, plan_of_intake, turn_of, turns}
 use Rattle.host_model.proofs.ListTests.{both}
-use Rattle.host_turn.specs.History.{Continues, entries_of}
-use Rattle.host_turn.specs.declared.seat.BookSeat.{BookSeat}
-use Rattle.host_turn.specs.Seats.{IsSameSeat, fixed_part, number, seen_by}
-use Rattle.host_session.specs.Client.{IntakeSeat}
-use Rattle.host_session.specs.Closing.{IsTurnedTo}
+use Rattle.host_log.specs.{Continues, entries_of}
+use Rattle.host_turn.specs.{BookSeat, IsSameSeat, fixed_part, number, seen_by}
+use Rattle.host_session.specs.{IntakeSeat, IsTurnedTo}
 use Rattle.host_session.proofs.Snoc.{found_one}
 
 -- an entry under another number turned nothing
@@ -51,10 +42,10 @@ pub same_seat : {S E F : Type 0} (p q r : BookSeat S E F) → IsSameSeat p q →
 same_seat p q r e f = (f.0 ∙ e.0, f.1 ∙ e.1, f.2 ∙ e.2, f.3 ∙ e.3)
 
 -- The intake that the client entered has the phases that the client had seen.
-pub entered_turns : (c : ℕ) (phases : List Phase) (old mid : IntakeSeat) (s : IntakeState) → IsTurnedTo c phases old → IsSameSeat old mid → s.entries ≡ seen_by mid → Continues maker_of (number old) (seen_by old) (seen_by mid) → fixed_part mid ≡ Some (plan_of s) → IsIntake s
+pub entered_turns : (c : ℕ) (phases : List Phase) (old mid : IntakeSeat) (s : IntakeState) → IsTurnedTo c phases old → IsSameSeat old mid → s.entries ≡ seen_by mid → Continues maker_of (number old) (seen_by old) (seen_by mid) → fixed_part mid ≡ Some (plan_of_intake s) → IsIntake s
     → turns s.entries ≡ phases
 entered_turns c phases old mid s to same story later fixed is =
-    let adm : number s.memory_seat ≡ c + 1 = admissions_are (fixed_part old) (plan_of s) (c + 1) to.admissions (sym same.3 ∙ fixed) in
+    let adm : number s.memory_seat ≡ c + 1 = admissions_are (fixed_part old) (plan_of_intake s) (c + 1) to.admissions (sym same.3 ∙ fixed) in
     let by : list_all (is_turned_below (c + 1)) s.entries ≡ true = subst (λ (n : ℕ). list_all (is_turned_below n) s.entries ≡ true) adm is.turned.by_client in
     let own : entries_of maker_of c s.entries ≡ entries_of maker_of c (seen_by old) = subst (λ (n : ℕ). entries_of maker_of n s.entries ≡ entries_of maker_of n (seen_by old)) to.number_is (ap (entries_of maker_of (number old)) story ∙ later.1) in
     turns_same c (seen_by old) later.0.0 s.entries (later.0.1 ∙ sym story) own by ∙ to.turned

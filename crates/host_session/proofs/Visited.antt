@@ -2,33 +2,18 @@
 use Rattle.std.proofs.Common.{◌≡◌, ℕ, ◌+◌, ◌≤◌, ◌<◌, ◌==◌, Bool, true, false, not, IsTrue, List, [], ◌∷◌, ◌++◌, length, Some, None, refl, sym, ap, ap₂, subst, ◌∙◌, arith, length-append, append-nil}
 use Rattle.std.specs.List.{list_all, range_with_len}
 use Rattle.std.proofs.lemmas.Bool.{ne_eqb}
-use Rattle.host_log.specs.Switch.{SwitchedLog}
-use Rattle.host_intake.specs.State.{MemorySeat}
-use Rattle.host_memory.specs.declared.limits.MemoryPlan.{MemoryPlan}
-use Rattle.host_memory.specs.Entries.{given_count}
-use Rattle.host_memory.specs.Held.{has_blocks}
-use Rattle.host_memory.specs.Numbers.{is_numbered}
-use Rattle.host_memory.specs.State.{MemoryState, admissions_of, client_of, history, size_of}
-use Rattle.host_model.specs.declared.event.Event.{Event}
-use Rattle.host_model.specs.declared.event.Event.TheVariants.{Attached, Filled, Shown}
-use Rattle.host_model.specs.declared.memory.MemEntry.{MemEntry}
-use Rattle.host_model.specs.declared.memory.MemEvent.{MemEvent}
-use Rattle.host_model.specs.declared.memory.MemEvent.TheVariants.{Attach, Fill, Show}
-use Rattle.host_model.specs.Log.{given, given_id, sent}
-use Rattle.host_model.specs.Pages.{found_by}
-use Rattle.host_turn.specs.History.{Continues}
-use Rattle.host_turn.specs.Seats.{IsOutside, IsSameSeat, fixed_part, number, seen_by}
+use Rattle.host_log.specs.{SwitchedLog, Continues}
+use Rattle.host_intake.specs.{MemorySeat}
+use Rattle.host_memory.specs.{MemoryPlan, given_count, has_blocks, is_numbered, MemoryState, admissions_of, client_of, history, block_size_of}
+use Rattle.host_model.specs.{Event, Attached, Filled, Shown, MemEntry, MemEvent, Attach, Fill, Show, given, given_id, sent, found_by}
+use Rattle.host_turn.specs.{IsOutside, IsSameSeat, fixed_part, number, seen_by}
 use Rattle.host_session.specs.declared.client.ClientEnd.TheInside.{Inside}
-use Rattle.host_session.specs.Calls.{IsAttached, IsShown}
-use Rattle.host_session.specs.Client.{room_left}
-use Rattle.host_session.specs.ClientFields.{IsKept, client_state}
-use Rattle.host_session.specs.Plan.{id_limit}
-use Rattle.host_session.specs.Visits.{IsVisit, entry_by, entry_where}
+use Rattle.host_session.specs.{HasAttachedBuffer, IsShown, room_left, IsClientKept, client_state, id_limit, IsVisit, entry_by, entry_where}
 use Rattle.host_session.proofs.Entered.{given_so_far, numbered, plan_is, visit, visit_kept, visit_left}
 use Rattle.host_session.proofs.Snoc.{found_none, found_one, ids_more}
 use Rattle.host_session.proofs.Visiting.{kept_entry, kept_looked}
 
-module _ (a : Inside) (k : IsKept a) (mid : MemorySeat) (m : MemoryState) (same : IsSameSeat a.memory_seat mid) (story : m.entries ≡ seen_by mid)
+module _ (a : Inside) (k : IsClientKept a) (mid : MemorySeat) (m : MemoryState) (same : IsSameSeat a.memory_seat mid) (story : m.entries ≡ seen_by mid)
     (later : Continues (λ (e : MemEntry). e.hand) (number a.memory_seat) (seen_by a.memory_seat) (seen_by mid)) (fixed : fixed_part mid ≡ Some m.plan) (past : a.fronts.memory ≤ length m.entries)
     (numbers : IsTrue (list_all (is_numbered (client_of m) (admissions_of m)) m.entries)) (running : a.finish ≡ None) (room : 1 ≤ room_left (client_state a)) where
   -- the entry stands under the client's number
@@ -50,7 +35,7 @@ module _ (a : Inside) (k : IsKept a) (mid : MemorySeat) (m : MemoryState) (same 
       → (IsTrue done → n ≡ record m { entries = m.entries ++ record { hand = client_of m; what = Fill id block cnt byte } ∷ [] })
       → (done ≡ false → n ≡ m)
       → front ≡ length n.entries → IsSameSeat mid q × IsOutside q → seen_by q ≡ n.entries → l ≡ record a.log { items = a.log.items ++ Filled id block cnt byte done ∷ [] }
-      → IsKept (record a { log = l; fronts = record { device = a.fronts.device; memory = front }; memory_seat = q })
+      → IsClientKept (record a { log = l; fronts = record { device = a.fronts.device; memory = front }; memory_seat = q })
   filled_kept id block cnt byte true n q l front answer done not_done front_is out seen log_is =
       let w : MemEvent = Fill id block cnt byte in
       let ev : Event = Filled id block cnt byte true in
@@ -67,11 +52,11 @@ module _ (a : Inside) (k : IsKept a) (mid : MemorySeat) (m : MemoryState) (same 
 
   pub shown_kept : (id block cnt : ℕ) (bytes : List ℕ) (done : Bool) (n : MemoryState) (q : MemorySeat) (l : SwitchedLog Event) (front : ℕ)
       → done ≡ has_blocks id (history m) block cnt
-      → (IsTrue done → found_by (size_of m) (history m) (Show id block cnt) ≡ Some bytes)
+      → (IsTrue done → found_by (block_size_of m) (history m) (Show id block cnt) ≡ Some bytes)
       → (IsTrue done → n ≡ record m { entries = m.entries ++ record { hand = client_of m; what = Show id block cnt } ∷ [] })
       → (done ≡ false → n ≡ m)
       → front ≡ length n.entries → IsSameSeat mid q × IsOutside q → seen_by q ≡ n.entries → l ≡ record a.log { items = a.log.items ++ Shown id block cnt done bytes ∷ [] }
-      → IsKept (record a { log = l; fronts = record { device = a.fronts.device; memory = front }; memory_seat = q })
+      → IsClientKept (record a { log = l; fronts = record { device = a.fronts.device; memory = front }; memory_seat = q })
   shown_kept id block cnt bytes true n q l front answer found done not_done front_is out seen log_is =
       let w : MemEvent = Show id block cnt in
       let ev : Event = Shown id block cnt true bytes in
@@ -98,7 +83,7 @@ module _ (a : Inside) (k : IsKept a) (mid : MemorySeat) (m : MemoryState) (same 
 
   pub shown_answer : (id block cnt : ℕ) (bytes : List ℕ) (done : Bool) (n : MemoryState) (q : MemorySeat) (l : SwitchedLog Event) (front : ℕ)
       → done ≡ has_blocks id (history m) block cnt
-      → (IsTrue done → found_by (size_of m) (history m) (Show id block cnt) ≡ Some bytes)
+      → (IsTrue done → found_by (block_size_of m) (history m) (Show id block cnt) ≡ Some bytes)
       → (done ≡ false → bytes ≡ [])
       → (IsTrue done → n ≡ record m { entries = m.entries ++ record { hand = client_of m; what = Show id block cnt } ∷ [] })
       → (done ≡ false → n ≡ m)
@@ -118,7 +103,7 @@ module _ (a : Inside) (k : IsKept a) (mid : MemorySeat) (m : MemoryState) (same 
       → id ≡ given_count (history m) + 1
       → n ≡ record m { entries = m.entries ++ record { hand = client_of m; what = Attach id pages a.sent } ∷ [] }
       → front ≡ length n.entries → IsSameSeat mid q × IsOutside q → seen_by q ≡ n.entries → l ≡ record a.log { items = a.log.items ++ Attached pages id ∷ [] }
-      → IsKept (record a { log = l; given = a.given + 1; fronts = record { device = a.fronts.device; memory = front }; memory_seat = q })
+      → IsClientKept (record a { log = l; given = a.given + 1; fronts = record { device = a.fronts.device; memory = front }; memory_seat = q })
   attached_kept id pages n q l front few id_is is front_is out seen log_is =
       let w : MemEvent = Attach id pages a.sent in
       let ev : Event = Attached pages id in
@@ -138,7 +123,7 @@ module _ (a : Inside) (k : IsKept a) (mid : MemorySeat) (m : MemoryState) (same 
       → id ≡ given_count (history m) + 1
       → n ≡ record m { entries = m.entries ++ record { hand = client_of m; what = Attach id pages a.sent } ∷ [] }
       → front ≡ length n.entries → IsSameSeat mid q × IsOutside q → seen_by q ≡ n.entries → l ≡ record a.log { items = a.log.items ++ Attached pages id ∷ [] }
-      → IsAttached pages id (client_state a) (client_state (record a { log = l; given = a.given + 1; fronts = record { device = a.fronts.device; memory = front }; memory_seat = q }))
+      → HasAttachedBuffer pages id (client_state a) (client_state (record a { log = l; given = a.given + 1; fronts = record { device = a.fronts.device; memory = front }; memory_seat = q }))
   attached_answer id pages n q l front id_is is front_is out seen log_is =
       let v : IsVisit a.fronts.memory a.memory_seat q m.entries (entry_by a.hands (Attach id pages a.sent) ∷ []) = visit a k mid m same story later fixed past numbers q (entry_by a.hands (Attach id pages a.sent) ∷ []) out (left_with (Attach id pages a.sent) n q is seen) in
       record {

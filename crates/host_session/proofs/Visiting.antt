@@ -4,42 +4,22 @@ use Rattle.std.specs.List.{cons_option, list_all, list_any, range_with_len}
 use Rattle.std.proofs.lemmas.Bool.{eq-eqb}
 use Rattle.std.proofs.lemmas.List.{map-append, take_at}
 use Rattle.atomic_table.specs.Seated.{TableId}
-use Rattle.host_turn.specs.declared.seat.BookSeat.{BookSeat}
+use Rattle.host_turn.specs.{BookSeat, IsOutside, IsSameSeat, seen_by}
 use Rattle.std.proofs.lemmas.List.Folds.{list_all-append, list_any-append}
 use Rattle.std.proofs.lemmas.List.Elements.{filter-append, filter_map-append}
-use Rattle.host_intake.specs.State.{MemorySeat}
-use Rattle.host_memory.specs.Held.{has_blocks}
-use Rattle.host_memory.specs.Numbers.{is_numbered}
-use Rattle.host_memory.specs.State.{events}
-use Rattle.host_model.specs.declared.event.Event.{Event}
-use Rattle.host_model.specs.declared.memory.MemEntry.{MemEntry}
-use Rattle.host_model.specs.declared.memory.MemEvent.{MemEvent}
-use Rattle.host_model.specs.declared.memory.MemEvent.TheVariants.{Attach, Fill, Show, Pin, Lift, Land, Done, Release}
+use Rattle.host_intake.specs.{MemorySeat}
+use Rattle.host_memory.specs.{has_blocks, is_numbered, events}
+use Rattle.host_model.specs.{Event, MemEntry, MemEvent, Attach, Fill, Show, Pin, Lift, Land, Done, Release, entry_after, is_client, all_with_before, count, map_with_before, given, given_id, received_bytes, sent_bytes, sent_index, found_by, shown_bytes, is_end, runs_out_rightly}
 use Rattle.host_model.specs.declared.memory.MemEvent.TheVariants as mem
-use Rattle.host_model.specs.ClientEntries.{entry_after, is_client}
-use Rattle.host_model.specs.Lists.{all_with_before, count, map_with_before}
-use Rattle.host_model.specs.Log.{given, given_id, received_bytes, sent_bytes, sent_index}
-use Rattle.host_model.specs.Pages.{found_by, shown_bytes}
-use Rattle.host_model.specs.Taking.{is_end, runs_out_rightly}
 use Rattle.host_model.proofs.ListTests.{and-from, both}
-use Rattle.host_turn.specs.History.{entries_of}
-use Rattle.host_turn.specs.Seats.{IsOutside, IsSameSeat, seen_by}
-use Rattle.host_session.specs.declared.fronts.Fronts.{Fronts}
-use Rattle.host_session.specs.Acts.{Act, FoundNone, HasPlace, IsCourse, IsEventAfter, fronts_after, has_entry}
-use Rattle.host_session.specs.Calls.{with_event, with_visit}
-use Rattle.host_session.specs.Client.{AreWithin, ClientState, is_aborted, room_left}
-use Rattle.host_session.specs.Kept.{IsClient}
-use Rattle.host_session.specs.Plan.{IsSeatIn, id_limit, memory_plan}
-use Rattle.host_session.specs.Told.{IsTold, finds_blocks, is_by_client, is_release}
+use Rattle.host_log.specs.{entries_of}
+use Rattle.host_session.specs.{Fronts, Act, FoundNoBlocks, HasPlace, IsCourse, IsEventAfter, fronts_after, has_entry, with_event, with_visit, AreWithin, ClientState, is_aborted, room_left, IsClient, IsSeatIn, id_limit, memory_plan, IsClientTold, finds_blocks, is_by_client, is_release, IsVisit, entry_by}
 use Rattle.host_session.proofs.Blocks.{found_more, found_rest}
-use Rattle.host_session.specs.Visits.{IsVisit, entry_by}
 use Rattle.host_session.proofs.Course.{course_entry, course_quiet, course_seen, no_client}
 use Rattle.host_session.proofs.Keeping.{log_given, log_quiet, none_late, one_more_fits, told_quiet}
-use Rattle.host_session.proofs.Snoc.{filter_none, filter_one, filter_rest, told_append, told_one, told_rest}
-
-pub nothing_more : {A : Type 0} (xs ys : List A) → xs ++ ys ≡ xs → ys ≡ []
-nothing_more xs [] e = refl
-nothing_more xs (y ∷ ys) e = absurd (omega (arith, ap length e, length-append xs (y ∷ ys)))
+use Rattle.host_session.proofs.Snoc.{filter_rest, told_append, told_one, told_rest}
+use Rattle.host_memory.proofs.Pushed.{filter_add, filter_skip}
+use Rattle.host_log.proofs.Places.{nothing_more}
 
 -- only a show finds something
 pub finds_none : (size : ℕ) (before : List MemEvent) (e : MemEvent) → is_client e ≡ false → found_by size before e ≡ None
@@ -71,12 +51,12 @@ pub own_append : (c : ℕ) (xs ys : List MemEntry) → entries_of (λ e. e.hand)
 own_append c xs ys = filter-append (λ (e : MemEntry). nat_eq e.hand c) xs ys
 
 own_one : (c : ℕ) (xs : List MemEntry) (w : MemEvent) → entries_of (λ e. e.hand) c (xs ++ entry_by c w ∷ []) ≡ entries_of (λ e. e.hand) c xs ++ entry_by c w ∷ []
-own_one c xs w = filter_one (λ (e : MemEntry). nat_eq e.hand c) xs (entry_by c w) (eq-eqb c c refl)
+own_one c xs w = filter_add (λ (e : MemEntry). nat_eq e.hand c) xs (entry_by c w) (eq-eqb c c refl)
 
 -- ---- the history is longer, with nothing of the client's
 
 module _ (c size : ℕ) (log : List Event) (h rest : List MemEntry) (none : filter is_client (events rest) ≡ []) (own : entries_of (λ e. e.hand) c (h ++ rest) ≡ entries_of (λ e. e.hand) c h) where
-  pub told_seen : IsTold c size log h → IsTold c size log (h ++ rest)
+  pub told_seen : IsClientTold c size log h → IsClientTold c size log (h ++ rest)
   told_seen t = record {
     entries = ap (filter is_client) (map-append (λ (e : MemEntry). e.what) h rest) ∙ (filter_rest is_client (events h) (events rest) none ∙ t.entries);
     ids = t.ids;
@@ -88,10 +68,10 @@ module _ (c size : ℕ) (log : List Event) (h rest : List MemEntry) (none : filt
 -- ---- one entry more of the client's
 
 module _ (c size : ℕ) (log : List Event) (h : List MemEntry) (ev : Event) (w : MemEvent) (client : is_client w ≡ true) (entry : entry_after log ev ≡ Some w) where
-  pub told_entry : given (log ++ ev ∷ []) ≡ range_with_len 1 (length (given (log ++ ev ∷ []))) → shown_bytes ev ≡ found_by size (events h) w → finds_blocks (events h) w ≡ true → IsTold c size log h → IsTold c size (log ++ ev ∷ []) (h ++ entry_by c w ∷ [])
+  pub told_entry : given (log ++ ev ∷ []) ≡ range_with_len 1 (length (given (log ++ ev ∷ []))) → shown_bytes ev ≡ found_by size (events h) w → finds_blocks (events h) w ≡ true → IsClientTold c size log h → IsClientTold c size (log ++ ev ∷ []) (h ++ entry_by c w ∷ [])
   told_entry ids shown finds t = record {
     entries = ap (filter is_client) (map-append (λ (e : MemEntry). e.what) h (entry_by c w ∷ []))
-        ∙ (filter_one is_client (events h) w client ∙ (ap (λ l. l ++ w ∷ []) t.entries ∙ sym (told_one entry_after log ev w entry)));
+        ∙ (filter_add is_client (events h) w client ∙ (ap (λ l. l ++ w ∷ []) t.entries ∙ sym (told_one entry_after log ev w entry)));
     ids = ids;
     shows = filter_map-append shown_bytes log (ev ∷ [])
         ∙ (ap₂ (λ l o. l ++ cons_option o []) t.shows shown
@@ -120,8 +100,8 @@ module _ (s : ClientState) (k : IsClient s) (q : MemorySeat) (found : List MemEn
         (sym (list_all-append (is_numbered s.plan.hands (s.plan.hands + 1)) (seen_by s.memory_seat) rest) ∙ (ap (list_all (is_numbered s.plan.hands (s.plan.hands + 1))) whole ∙ numbers))).1
         (nothing_more (entries_of (λ e. e.hand) s.plan.hands (seen_by s.memory_seat)) (entries_of (λ e. e.hand) s.plan.hands rest) (sym (own_append s.plan.hands (seen_by s.memory_seat) rest) ∙ own_same))
 
-    pub told_found : IsTold s.plan.hands s.plan.spec.size s.log found
-    told_found = subst (λ l. IsTold s.plan.hands s.plan.spec.size s.log l) whole (told_seen s.plan.hands s.plan.spec.size s.log (seen_by s.memory_seat) rest none_more own_same k.told)
+    pub told_found : IsClientTold s.plan.hands s.plan.spec.size s.log found
+    told_found = subst (λ l. IsClientTold s.plan.hands s.plan.spec.size s.log l) whole (told_seen s.plan.hands s.plan.spec.size s.log (seen_by s.memory_seat) rest none_more own_same k.told)
 
     pub course_found : (f : Fronts) → AreWithin s.fronts f → IsCourse s.log s.sender.pushed s.taker.taken found f k.acts
     course_found f within = subst (λ l. IsCourse s.log s.sender.pushed s.taker.taken l f k.acts) whole (course_seen s.log s.sender.pushed s.taker.taken (seen_by s.memory_seat) s.fronts k.acts k.course rest f none_more within)
@@ -160,12 +140,12 @@ module _ (s : ClientState) (k : IsClient s) (q : MemorySeat) (found : List MemEn
           page_size = k.page_size;
           rings = record { sender = k.rings.sender; taker = k.rings.taker };
           log = log_given s.plan.spec s.log k.log ev inner sends sends' few rightly (one_more_fits s.plan.spec.events (count (λ x. not (is_end x)) s.log) room);
-          told = subst (λ l. IsTold s.plan.hands s.plan.spec.size (s.log ++ ev ∷ []) l) (sym v.left) (told_entry s.plan.hands s.plan.spec.size s.log found ev w client entry ids shown finds (told_found rest whole same));
+          told = subst (λ l. IsClientTold s.plan.hands s.plan.spec.size (s.log ++ ev ∷ []) l) (sym v.left) (told_entry s.plan.hands s.plan.spec.size s.log found ev w client entry ids shown finds (told_found rest whole same));
           seen = omega arith;
           ended = record {
             first = k.ended.first;
             turned = k.ended.turned;
-            logged = filter_none is_end s.log ev inner ∙ k.ended.logged;
+            logged = filter_skip is_end s.log ev inner ∙ k.ended.logged;
             last = λ b. absurd (cc (sym b ∙ ap is_aborted running));
             drained = λ _ b. absurd (cc (sym b ∙ closed));
             own = k.ended.own;
@@ -185,7 +165,7 @@ module _ (s : ClientState) (k : IsClient s) (q : MemorySeat) (found : List MemEn
   pub kept_looked : (ev : Event) (id block cnt : ℕ) → IsVisit s.fronts.memory s.memory_seat q found [] → s.finish ≡ None → 1 ≤ room_left s
       → has_blocks id (events found) block cnt ≡ false
       → entry_after s.log ev ≡ None → has_entry ev ≡ false → is_end ev ≡ false → sent_bytes ev ≡ None → sent_index ev ≡ None → received_bytes ev ≡ None → given_id ev ≡ None → shown_bytes ev ≡ None → runs_out_rightly s.log ev ≡ true
-      → ((a : Act) → FoundNone found (fronts_after k.acts) a id block cnt → IsEventAfter found k.acts a ev)
+      → ((a : Act) → FoundNoBlocks found (fronts_after k.acts) a id block cnt → IsEventAfter found k.acts a ev)
       → IsClient (with_event (with_visit s q) ev)
   kept_looked ev id block cnt v running room missing entry has inner sends sends' receives gives shows rightly is =
       let a : Act = record { event = ev; envelope = None; slip = None; fronts = record { device = s.fronts.device; memory = length (seen_by q) } } in
@@ -203,12 +183,12 @@ module _ (s : ClientState) (k : IsClient s) (q : MemorySeat) (found : List MemEn
         page_size = k.page_size;
         rings = record { sender = k.rings.sender; taker = k.rings.taker };
         log = log_quiet s.plan.spec s.log k.log ev inner sends sends' gives rightly (one_more_fits s.plan.spec.events (count (λ x. not (is_end x)) s.log) room);
-        told = subst (λ l. IsTold s.plan.hands s.plan.spec.size (s.log ++ ev ∷ []) l) (sym left) (told_quiet s.plan.hands s.plan.spec.size s.log found ev entry gives shows (told_found rest whole same));
+        told = subst (λ l. IsClientTold s.plan.hands s.plan.spec.size (s.log ++ ev ∷ []) l) (sym left) (told_quiet s.plan.hands s.plan.spec.size s.log found ev entry gives shows (told_found rest whole same));
         seen = omega arith;
         ended = record {
           first = k.ended.first;
           turned = k.ended.turned;
-          logged = filter_none is_end s.log ev inner ∙ k.ended.logged;
+          logged = filter_skip is_end s.log ev inner ∙ k.ended.logged;
           last = λ b. absurd (cc (sym b ∙ ap is_aborted running));
           drained = λ _ b. absurd (cc (sym b ∙ closed));
           own = k.ended.own;

@@ -2,12 +2,9 @@
 use Rattle.std.proofs.Common.{◌≡◌, ◌≢◌, ℕ, zero, suc, ◌<◌, ◌≤◌, List, [], ◌∷◌, ◌++◌, length, map, All, refl, sym, ap, subst, ◌∙◌, arith}
 use Rattle.std.proofs.lemmas.List.{length-map}
 use Rattle.std.proofs.lemmas.List.Elements.{All-append, All-cons, All-head, All-map, All-nil, All-same, All-tail}
-use Rattle.host_rings.specs.AnswerEnds.{AreAllOf, SlipSenderState, SlipTakerState}
-use Rattle.host_rings.specs.Places.{EachPlace}
-use Rattle.host_turn.specs.Seats.{IsSeatOutside}
-use Rattle.host_session.specs.declared.hand.SessionHand.{SessionHand}
-use Rattle.host_session.specs.declared.shared.SessionShared.{SessionShared}
-use Rattle.host_session.specs.Plan.{AreAllHands, IsShared, SessionPlan}
+use Rattle.host_rings.specs.{AreAllOf, SlipSenderState, SlipTakerState, EachPlace}
+use Rattle.host_turn.specs.{IsSeatOutside}
+use Rattle.host_session.specs.{SessionHand, SessionShared, AreAllHands, IsShared, SessionPlan}
 
 -- ---- lists that are put together
 

@@ -2,33 +2,19 @@
 use Rattle.std.proofs.Common.{◌≡◌, ℕ, ◌+◌, ◌≤◌, true, IsTrue, List, [], ◌++◌, length, map, Some, None, sym, ap, subst, ◌∙◌, arith}
 use Rattle.std.specs.List.{list_all, slice_get}
 use Rattle.std.proofs.lemmas.List.{map-append}
-use Rattle.host_group.specs.Ends.{greatest}
-use Rattle.host_intake.specs.declared.entry.Phase.TheVariants.{Running, Closed}
-use Rattle.host_intake.specs.declared.plan.IntakePlan.{IntakePlan}
-use Rattle.host_intake.specs.Entries.{Taking, landings, maker_of, takings}
-use Rattle.host_intake.specs.Intaken.{IsIntake, is_turned_below}
-use Rattle.host_intake.specs.Ledgers.{is_taken_open}
-use Rattle.host_intake.specs.State.{IntakeState, plan_of}
-use Rattle.host_intake.specs.Told.{phase_in, seen_of, turns}
-use Rattle.host_memory.specs.Held.{first_held}
-use Rattle.host_memory.specs.Numbers.{is_numbered}
-use Rattle.host_memory.specs.State.{events}
-use Rattle.host_model.specs.declared.memory.MemEntry.{MemEntry}
-use Rattle.host_model.specs.Lists.{all_with_before, last}
-use Rattle.host_model.specs.Log.{sent}
-use Rattle.host_turn.specs.History.{entries_of}
-use Rattle.host_turn.specs.Seats.{seen_by}
-use Rattle.host_turn.proofs.Histories.{entries-append}
-use Rattle.host_session.specs.Acts.{AreLate}
-use Rattle.host_session.specs.Client.{ClientState}
-use Rattle.host_session.specs.Endings.{IsOver}
-use Rattle.host_session.specs.Kept.{IsClient}
-use Rattle.host_session.specs.Plan.{intake_plan}
-use Rattle.host_session.specs.Whole.{HasAllOf, IsClientOf}
+use Rattle.host_group.specs.{greatest}
+use Rattle.host_intake.specs.{Running, Closed, IntakePlan, Taking, landings, maker_of, takings, IsIntake, is_turned_below, is_taken_open, IntakeState, plan_of_intake, phase_in, seen_of, turns}
+use Rattle.host_memory.specs.{first_held, is_numbered, events}
+use Rattle.host_model.specs.{MemEntry, all_with_before, last, sent}
+use Rattle.host_log.specs.{entries_of}
+use Rattle.host_turn.specs.{seen_by}
+use Rattle.host_log.proofs.Histories.{entries-append}
+use Rattle.host_session.specs.{AreLate, ClientState, IsSessionOver, IsClient, intake_plan, HasAllOf, IsClientOf}
 use Rattle.host_session.proofs.Turning.{turns_same}
 use Rattle.host_session.proofs.Visiting.{course_found, none_more, own_same, told_found}
 use Rattle.host_session.proofs.WholeIntake.{closed_last, landed_still, passed_still, takings_still}
-use Rattle.host_session.proofs.WholeMemory.{home_still, none_after, own_seen}
+use Rattle.host_session.proofs.WholeMemory.{home_still, own_seen}
+use Rattle.host_log.proofs.Places.{nothing_more}
 
 module _ (s : ClientState) (k : IsClient s) (closed : s.closed ≡ true) where
   -- ---- the buffers
@@ -45,7 +31,7 @@ module _ (s : ClientState) (k : IsClient s) (closed : s.closed ≡ true) where
     same_own = subst (λ (n : ℕ). entries_of (λ e. e.hand) n h ≡ entries_of (λ e. e.hand) n (seen_by s.memory_seat)) k.memory_seat.number_is later.1
 
     none_own : entries_of (λ e. e.hand) s.plan.hands after ≡ []
-    none_own = none_after (entries_of (λ e. e.hand) s.plan.hands (seen_by s.memory_seat)) (entries_of (λ e. e.hand) s.plan.hands after)
+    none_own = nothing_more (entries_of (λ e. e.hand) s.plan.hands (seen_by s.memory_seat)) (entries_of (λ e. e.hand) s.plan.hands after)
         (sym (entries-append (λ (e : MemEntry). e.hand) s.plan.hands (seen_by s.memory_seat) after) ∙ own_same s k s.memory_seat h numbers after whole same_own)
 
     pub home : first_held (events h) ≡ None
@@ -54,7 +40,7 @@ module _ (s : ClientState) (k : IsClient s) (closed : s.closed ≡ true) where
 
   -- ---- the intake
 
-  module _ (o : IntakeState) (i : IsIntake o) (plan : plan_of o ≡ intake_plan s.plan) (later : HasAllOf maker_of o.entries s.intake_seat) where
+  module _ (o : IntakeState) (i : IsIntake o) (plan : plan_of_intake o ≡ intake_plan s.plan) (later : HasAllOf maker_of o.entries s.intake_seat) where
     by : list_all (is_turned_below (s.plan.hands + 1)) o.entries ≡ true
     by = subst (λ (n : ℕ). list_all (is_turned_below n) o.entries ≡ true) (ap (λ (x : IntakePlan). x.admissions) plan) i.turned.by_client
 
@@ -83,9 +69,9 @@ module _ (s : ClientState) (k : IsClient s) (closed : s.closed ≡ true) where
           let t = k.late n e seen made is in
           (t.0, subst (λ (m : ℕ). m ≤ n) (ap (λ (ts : List Taking). greatest (map seen_of ts)) (sym takings_same)) t.1)
 
-      whole_over : IsOver s.finish s.log o.entries h
+      whole_over : IsSessionOver s.finish s.log o.entries h
       whole_over =
-          let v : IsOver s.finish s.log (seen_by s.intake_seat) (seen_by s.memory_seat) = k.ended.over closed in
+          let v : IsSessionOver s.finish s.log (seen_by s.intake_seat) (seen_by s.memory_seat) = k.ended.over closed in
           let all : length (landings o.entries) ≡ length (takings o.entries) = i.turned.over phase_is in
           record {
             landed = landed_still (seen_by s.intake_seat) later.0.0 o.entries later.0.1 same closed_seen before_close all v.landed;

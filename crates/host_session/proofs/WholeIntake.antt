@@ -2,20 +2,14 @@
 use Rattle.std.proofs.Common.{◌≡◌, ℕ, ◌+◌, ◌≤◌, Bool, true, false, not, cond, IsTrue, List, [], ◌∷◌, ◌++◌, length, filter, filter_map, drop, Option, Some, None, refl, sym, ap, ◌∙◌, arith, append_assoc, append-nil, length-append, length-drop}
 use Rattle.std.specs.List.{list_any}
 use Rattle.std.proofs.lemmas.List.Elements.{filter-append, filter_map-append}
-use Rattle.host_intake.specs.declared.entry.IntakeEntry.{IntakeEntry}
-use Rattle.host_intake.specs.declared.entry.IntakeEntry.TheVariants.{Took, Landed, Passed, Turned}
-use Rattle.host_intake.specs.declared.entry.Phase.{Phase}
-use Rattle.host_intake.specs.declared.entry.Phase.TheVariants.{Running, Closed}
-use Rattle.host_intake.specs.Entries.{landing_of, landings, taking_of, takings}
-use Rattle.host_intake.specs.Ledgers.{is_shut, is_taken_open}
-use Rattle.host_intake.specs.Told.{flights_in, is_aborted, is_passed, kept_by, kept_slips, phase_in, turn_of, turns, was_aborted}
-use Rattle.host_model.specs.Lists.{all_after, all_with_before, count, last}
+use Rattle.host_intake.specs.{IntakeEntry, Took, Landed, Passed, Turned, Phase, Running, Closed, landing_of, landings, taking_of, takings, is_shut, is_taken_open, flights_in, is_aborted_phase, is_passed, kept_by, kept_slips, phase_in, turn_of, turns, was_aborted}
+use Rattle.host_model.specs.{all_after, all_with_before, count, last}
 use Rattle.host_model.proofs.ListTests.{both}
-use Rattle.host_record.specs.declared.finish.Finish.{Finish}
-use Rattle.host_rings.specs.declared.slip.Slip.{Slip}
-use Rattle.host_session.specs.Client.{turns_made}
+use Rattle.host_record.specs.{Finish}
+use Rattle.host_rings.specs.{Slip}
+use Rattle.host_session.specs.{turns_made}
 use Rattle.host_session.proofs.Snoc.{found_none}
-use Rattle.host_session.proofs.WholeMemory.{none_after}
+use Rattle.host_log.proofs.Places.{nil_of, nothing_more}
 
 -- who has closed a session has turned it to closed last
 pub closed_last : (f : Option Finish) (b : Bool) → (f ≡ None → b ≡ false) → b ≡ true → last Running (turns_made f b) ≡ Closed
@@ -54,13 +48,9 @@ fewer_kept : (b : Bool) (m n : ℕ) (l : List Slip) → m ≤ n → length (cond
 fewer_kept true m n l le e = refl
 fewer_kept false m n l le e = omega (arith, le, e, length-drop m l, length-drop n l)
 
-nil_of : {A : Type 0} (xs : List A) → length xs ≡ 0 → xs ≡ []
-nil_of [] e = refl
-nil_of (x ∷ xs) e = absurd (omega (arith, e))
-
 module _ (seen rest es : List IntakeEntry) (whole : seen ++ rest ≡ es) (same : turns es ≡ turns seen) (closed : phase_in seen ≡ Closed) (before_close : IsTrue (all_with_before is_taken_open es)) where
   no_turns : turns rest ≡ []
-  no_turns = none_after (turns seen) (turns rest) (sym (filter_map-append turn_of seen rest) ∙ (ap turns whole ∙ same))
+  no_turns = nothing_more (turns seen) (turns rest) (sym (filter_map-append turn_of seen rest) ∙ (ap turns whole ∙ same))
 
   no_takings : takings rest ≡ []
   no_takings = none_taken seen rest closed no_turns (passed_after is_taken_open [] seen rest (ap (all_with_before is_taken_open) whole ∙ before_close))
@@ -81,7 +71,7 @@ module _ (seen rest es : List IntakeEntry) (whole : seen ++ rest ≡ es) (same :
     passed_still none =
         let k : filter_map kept_by es ≡ filter_map kept_by seen = ap (filter_map kept_by) (sym whole) ∙ (filter_map-append kept_by seen rest ∙ (ap (λ l. filter_map kept_by seen ++ l) (none_kept rest no_landings) ∙ append-nil (filter_map kept_by seen))) in
         let c : count is_passed es ≡ count is_passed seen + count is_passed rest = ap (count is_passed) (sym whole) ∙ (ap length (filter-append is_passed seen rest) ∙ length-append (filter is_passed seen) (filter is_passed rest)) in
-        let t : was_aborted es ≡ was_aborted seen = ap (λ (ps : List Phase). list_any is_aborted ps) same in
+        let t : was_aborted es ≡ was_aborted seen = ap (λ (ps : List Phase). list_any is_aborted_phase ps) same in
         ap (λ b. length (cond b [] (drop (count is_passed es) (filter_map kept_by es)))) t
         ∙ (ap (λ l. length (cond (was_aborted seen) [] (drop (count is_passed es) l))) k
         ∙ fewer_kept (was_aborted seen) (count is_passed seen) (count is_passed es) (filter_map kept_by seen) (omega (arith, c)) none)

@@ -1,30 +1,20 @@
 -- The whole history of a session's buffers: what others left there after the client changes nothing for it.
-use Rattle.std.proofs.Common.{◌≡◌, ℕ, zero, suc, Bool, true, false, ◌||◌, ◌==◌, cond, List, [], ◌∷◌, ◌++◌, length, filter, filter_map, Option, Some, None, refl, sym, ap, ap₂, ◌∙◌, arith, length-append}
+use Rattle.std.proofs.Common.{◌≡◌, ℕ, zero, suc, Bool, true, false, ◌||◌, ◌==◌, cond, List, [], ◌∷◌, ◌++◌, length, filter, filter_map, Option, Some, None, refl, sym, ap, ap₂, ◌∙◌}
 use Rattle.std.specs.List.{range_with_len, slice_get}
 use Rattle.std.specs.Option.{option_map_or}
 use Rattle.std.proofs.lemmas.Bool.{eq-eqb}
 use Rattle.std.proofs.lemmas.List.Elements.{filter_map-append}
 use Rattle.std.proofs.lemmas.List.Folds.{list_any-append}
-use Rattle.host_memory.specs.Entries.{given_count, is_attach}
-use Rattle.host_memory.specs.Held.{Attachment, attachment_by, attachment_of, first_held, holds_pages, is_released}
-use Rattle.host_model.specs.declared.memory.MemEntry.{MemEntry}
-use Rattle.host_model.specs.declared.memory.MemEvent.{MemEvent}
-use Rattle.host_model.specs.declared.memory.MemEvent.TheVariants.{Attach, Fill, Show, Pin, Lift, Land, Done, Release}
+use Rattle.host_memory.specs.{given_count, is_attach_entry, Attachment, attachment_by, attachment_of, first_held, holds_pages, is_released}
+use Rattle.host_model.specs.{MemEntry, MemEvent, Attach, Fill, Show, Pin, Lift, Land, Done, Release, is_client, is_release_of}
 use Rattle.host_model.specs.declared.memory.MemEvent.TheVariants as mem
-use Rattle.host_model.specs.ClientEntries.{is_client}
-use Rattle.host_model.specs.Releases.{is_release_of}
-use Rattle.host_turn.specs.History.{entries_of}
+use Rattle.host_log.specs.{entries_of}
 use Rattle.host_session.proofs.Snoc.{filter_rest}
-
--- a list that stays as long has nothing more
-pub none_after : {A : Type 0} (xs ys : List A) → xs ++ ys ≡ xs → ys ≡ []
-none_after xs [] e = refl
-none_after xs (y ∷ ys) e = absurd (omega (arith, ap length e, length-append xs (y ∷ ys)))
 
 -- ---- pages that are home stay there
 
 -- where nothing is the client's, no buffer is attached
-no_attach : (rest : List MemEvent) → filter is_client rest ≡ [] → filter is_attach rest ≡ []
+no_attach : (rest : List MemEvent) → filter is_client rest ≡ [] → filter is_attach_entry rest ≡ []
 no_attach [] none = refl
 no_attach (Attach id pages from ∷ rest) none = absurd (cc none)
 no_attach (Fill id block cnt byte ∷ rest) none = absurd (cc none)
@@ -81,7 +71,7 @@ filter_fewer p q (v ∷ vs) all none = at (p v) (q v) (all v) none (λ n. filter
 
 pub home_still : (h rest : List MemEvent) → filter is_client rest ≡ [] → first_held h ≡ None → first_held (h ++ rest) ≡ None
 home_still h rest none home =
-    let given : given_count (h ++ rest) ≡ given_count h = ap length (filter_rest is_attach h rest (no_attach rest none)) in
+    let given : given_count (h ++ rest) ≡ given_count h = ap length (filter_rest is_attach_entry h rest (no_attach rest none)) in
     let before : filter (λ v. holds_pages v h) (range_with_len 1 (given_count h)) ≡ [] = none_first (filter (λ v. holds_pages v h) (range_with_len 1 (given_count h))) home in
     let after : filter (λ v. holds_pages v (h ++ rest)) (range_with_len 1 (given_count h)) ≡ [] = filter_fewer (λ v. holds_pages v (h ++ rest)) (λ v. holds_pages v h) (range_with_len 1 (given_count h)) (λ v e. holds_before v h rest none e) before in
     ap (λ n. slice_get (filter (λ v. holds_pages v (h ++ rest)) (range_with_len 1 n)) 0) given ∙ ap (λ l. slice_get l 0) after

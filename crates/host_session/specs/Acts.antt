@@ -1,7 +1,11 @@
--- The course of a client end: each event of its log, with what came with it and what the end knew after it.
-use Rattle.std.specs.Prelude.{◌≡◌, ℕ, ◌-◌, ◌≤◌, ◌<◌, Bool, true, false, ◌&&◌, nat_lt, if◌then◌else◌, is_some, IsTrue, List, [], ◌∷◌, map, length, take, filter, filter_map, slice_get, Option, Some, None}
+-- The course of a client end: each event of its log, with what came with it and what the end knew
+-- after it.
+use Rattle.std.specs.Prelude.{◌≡◌, ℕ, ◌-◌, ◌≤◌, ◌<◌, Bool, true, false, ◌&&◌, nat_lt, if◌then◌else◌}
+use Rattle.std.specs.Prelude.{is_some, IsTrue, List, [], ◌∷◌, map, length, take, filter, filter_map}
+use Rattle.std.specs.Prelude.{slice_get, Option, Some, None}
 use Rattle.host_model.specs.declared.event.Event.{Event}
-use Rattle.host_model.specs.declared.event.Event.TheVariants.{Attached, Filled, Shown, Sent, Received, Drained}
+use Rattle.host_model.specs.declared.event.Event.TheVariants.{Attached, Filled, Shown, Sent}
+use Rattle.host_model.specs.declared.event.Event.TheVariants.{Received, Drained}
 use Rattle.host_model.specs.declared.memory.MemEntry.{MemEntry}
 use Rattle.host_model.specs.ClientEntries.{is_client}
 use Rattle.host_model.specs.Groups.{owed}
@@ -67,14 +71,21 @@ pub record HasPlace (known : Fronts) (a : Act) : Type 0 where
   pub past : known.memory < a.fronts.memory
 
 -- It found no such blocks in the buffer, in the history up to what the end then knew.
-pub record FoundNone (h : List MemEntry) (known : Fronts) (a : Act) (id block count : ℕ) : Type 0 where
+pub record FoundNoBlocks (h : List MemEntry) (known : Fronts) (a : Act) (id block count : ℕ)
+    : Type 0 where
   pub plain : IsPlain known a
   pub within : a.fronts.memory ≤ length h
   pub none : has_blocks id (events (take a.fronts.memory h)) block count ≡ false
 
 -- the envelope of the next record, with these fronts
 abbrev pub next_envelope : List Event → List ℕ → Fronts → Envelope
-next_envelope log bytes f = record { bytes = bytes; index = length (sent log); device_front = f.device; memory_front = f.memory }
+next_envelope log bytes f =
+    record {
+      bytes = bytes;
+      index = length (sent log);
+      device_front = f.device;
+      memory_front = f.memory;
+    }
 
 -- Its envelope has the fronts that the end knew.
 pub record IsSending (before : List Act) (a : Act) (index : ℕ) (bytes : List ℕ) : Type 0 where
@@ -106,9 +117,11 @@ pub record IsDrain (before : List Act) (a : Act) : Type 0 where
 abbrev pub IsEventAfter : List MemEntry → List Act → Act → Event → Type 0
 IsEventAfter h before a (Attached pages id) = HasPlace (fronts_after before) a
 IsEventAfter h before a (Filled id block count byte true) = HasPlace (fronts_after before) a
-IsEventAfter h before a (Filled id block count byte false) = FoundNone h (fronts_after before) a id block count
+IsEventAfter h before a (Filled id block count byte false) =
+    FoundNoBlocks h (fronts_after before) a id block count
 IsEventAfter h before a (Shown id block count true bytes) = HasPlace (fronts_after before) a
-IsEventAfter h before a (Shown id block count false bytes) = FoundNone h (fronts_after before) a id block count
+IsEventAfter h before a (Shown id block count false bytes) =
+    FoundNoBlocks h (fronts_after before) a id block count
 IsEventAfter h before a (Sent index bytes) = IsSending before a index bytes
 IsEventAfter h before a (Received bytes) = IsReceiving before a bytes
 IsEventAfter h before a Drained = IsDrain before a
@@ -125,9 +138,11 @@ pub record IsPart {A : Type 0} (some all : List A) : Type 0 where
   pub all_are : map (λ m. m.0) marked ≡ all
   pub some_are : map (λ m. m.0) (filter (λ m. m.1) marked) ≡ some
 
--- The acts of a client end that has this log, pushed these envelopes, took these slips, has seen the buffer history h,
--- and knows these fronts. Slips that answer no record sent before were thrown away.
-pub record IsCourse (log : List Event) (pushed : List Envelope) (taken : List Slip) (h : List MemEntry) (known : Fronts) (acts : List Act) : Type 0 where
+-- The acts of a client end that has this log, pushed these envelopes, took these slips, has seen
+-- the buffer history h, and knows these fronts. Slips that answer no record sent before were thrown
+-- away.
+pub record IsCourse (log : List Event) (pushed : List Envelope) (taken : List Slip)
+    (h : List MemEntry) (known : Fronts) (acts : List Act) : Type 0 where
   pub events_are : log_of acts ≡ log
   pub envelopes : envelopes_of acts ≡ pushed
   pub sent : map (λ (e : Envelope). e.bytes) pushed ≡ sent log
@@ -140,16 +155,17 @@ pub record IsCourse (log : List Event) (pushed : List Envelope) (taken : List Sl
 
 -- ---- the client's releases
 
-abbrev pub is_drained : Act → Bool
-is_drained a = is_drain_event a.event
+abbrev pub is_drain_act : Act → Bool
+is_drain_act a = is_drain_event a.event
 
 -- the acts before the session was closed after a drain
 abbrev pub before_drained : List Act → List Act
 before_drained [] = []
-before_drained (a ∷ acts) = if is_drained a then [] else a ∷ before_drained acts
+before_drained (a ∷ acts) = if is_drain_act a then [] else a ∷ before_drained acts
 
--- Each release that the client made stands at a place not below the fronts of the slips received before, and not below
--- what any verdict was judged on.
+-- Each release that the client made stands at a place not below the fronts of the slips received
+-- before, and not below what any verdict was judged on.
 abbrev pub AreLate : ℕ → List IntakeEntry → List MemEntry → List Act → Type 0
-AreLate client es h acts = (n : ℕ) (e : MemEntry) → slice_get h n ≡ Some e → e.hand ≡ client → is_release e.what ≡ true
+AreLate client es h acts =
+    (n : ℕ) (e : MemEntry) → slice_get h n ≡ Some e → e.hand ≡ client → is_release e.what ≡ true
     → ((fronts_after (before_drained acts)).memory ≤ n) × (memory_front_in es ≤ n)

@@ -1,5 +1,6 @@
 -- What contracts see of a client end.
-use Rattle.std.specs.Prelude.{◌≤◌, ℕ, ◌-◌, max, Bool, true, false, not, List, [], ◌∷◌, Option, Some, None}
+use Rattle.std.specs.Prelude.{◌≤◌, ℕ, ◌-◌, max, Bool, true, false, not, List, [], ◌∷◌, Option, Some}
+use Rattle.std.specs.Prelude.{None}
 use Rattle.host_intake.specs.declared.entry.IntakeEntry.{IntakeEntry}
 use Rattle.host_intake.specs.declared.entry.Phase.{Phase}
 use Rattle.host_intake.specs.declared.entry.Phase.TheVariants as phase
@@ -29,7 +30,8 @@ pub record ClientState : Type 0 where
   -- how it was told to end, and whether the session is closed
   pub finish : Option Finish
   pub closed : Bool
-  -- How long it knows both histories to be: by the slips received, and the buffers' also by its own seat.
+  -- How long it knows both histories to be: by the slips received, and the buffers' also by its own
+  -- seat.
   pub fronts : Fronts
   -- its seats, and its ends of the rings
   pub intake_seat : IntakeSeat

@@ -42,13 +42,13 @@ pub record IsCounted (a : Inside) : Type 0 where
   pub keeps : a.log.kept ≡ a.spec.keeps
 
 -- Room for all seats and senders of a session with so many hands.
-pub record HasRoomFor (hands : ℕ) (r : ClosingRoom) : Type 0 where
+pub record HasRoomForHands (hands : ℕ) (r : ClosingRoom) : Type 0 where
   pub empty : (r.intake_seats.items ≡ []) × (r.memory_seats.items ≡ []) × (r.senders.items ≡ [])
   pub intake_seats : hands + 1 ≤ vec_capacity r.intake_seats
   pub memory_seats : hands + 2 ≤ vec_capacity r.memory_seats
   pub senders : hands ≤ vec_capacity r.senders
 
-pub record IsKept (a : Inside) : Type 0 where
+pub record IsClientKept (a : Inside) : Type 0 where
   pub client : IsClient (client_state a)
   pub counted : IsCounted a
-  pub closing : HasRoomFor a.hands a.closing
+  pub closing : HasRoomForHands a.hands a.closing

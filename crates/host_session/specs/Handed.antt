@@ -1,4 +1,5 @@
--- The answers that the hands of a session handed on to its client, as its intake's history tells them.
+-- The answers that the hands of a session handed on to its client, as its intake's history tells
+-- them.
 use Rattle.std.specs.Prelude.{ℕ, false, ◌==◌, if◌then◌else◌, List, slice_get, Option, None}
 use Rattle.host_model.specs.Lists.{map_with_before}
 use Rattle.host_rings.specs.declared.slip.Slip.{Slip}
@@ -7,7 +8,8 @@ use Rattle.host_intake.specs.declared.entry.IntakeEntry.TheVariants.{Landed, Pas
 use Rattle.host_intake.specs.Entries.{maker_of}
 use Rattle.host_intake.specs.Told.{kept_slips}
 
--- the answer that an entry tells to be handed on: one that wasn't kept, or the oldest that was kept until then
+-- the answer that an entry tells to be handed on: one that wasn't kept, or the oldest that was kept
+-- until then
 abbrev pub slip_in : List IntakeEntry → IntakeEntry → Option Slip
 slip_in before (Landed hand index end answer false) = answer
 slip_in before (Passed hand) = slice_get (kept_slips before) 0

@@ -10,10 +10,10 @@ use Rattle.host_session.specs.Acts.{Act, AreLate, IsCourse}
 use Rattle.host_session.specs.Client.{ClientState}
 use Rattle.host_session.specs.Endings.{IsEndedSoFar}
 use Rattle.host_session.specs.Plan.{IsSeatIn, id_limit, intake_plan, memory_plan}
-use Rattle.host_session.specs.Told.{IsTold}
+use Rattle.host_session.specs.Told.{IsClientTold}
 
--- The records sent are numbered from 0, an attach is refused for want of ids just where 65,535 were given, and all is
--- within the spec's numbers.
+-- The records sent are numbered from 0, an attach is refused for want of ids just where 65,535 were
+-- given, and all is within the spec's numbers.
 pub record IsLog (spec : SessionSpec) (log : List Event) : Type 0 where
   pub numbered : filter_map sent_index log ≡ below (length (sent log))
   pub ids : IsTrue (all_with_before runs_out_rightly log)
@@ -32,9 +32,10 @@ pub record IsClient (s : ClientState) : Type 0 where
   pub page_size : s.plan.pool.1 ≡ s.plan.spec.size
   pub rings : HasRings s
   pub log : IsLog s.plan.spec s.log
-  pub told : IsTold s.plan.hands s.plan.spec.size s.log (seen_by s.memory_seat)
+  pub told : IsClientTold s.plan.hands s.plan.spec.size s.log (seen_by s.memory_seat)
   pub seen : length (seen_by s.memory_seat) ≤ s.fronts.memory
-  pub ended : IsEndedSoFar s.plan.hands s.finish s.closed s.log (seen_by s.intake_seat) (seen_by s.memory_seat)
+  pub ended : IsEndedSoFar s.plan.hands s.finish s.closed s.log (seen_by s.intake_seat)
+      (seen_by s.memory_seat)
   pub acts : List Act
   pub course : IsCourse s.log s.sender.pushed s.taker.taken (seen_by s.memory_seat) s.fronts acts
   pub late : AreLate s.plan.hands (seen_by s.intake_seat) (seen_by s.memory_seat) acts

@@ -7,7 +7,7 @@ use Rattle.host_frames.specs.Seats.{pool_id, seat_pool}
 use Rattle.host_group.specs.Seats.{cells_id}
 use Rattle.host_intake.specs.declared.entry.IntakeEntry.{IntakeEntry}
 use Rattle.host_intake.specs.declared.plan.IntakePlan.{IntakePlan}
-use Rattle.host_intake.specs.State.{IntakeState, plan_of}
+use Rattle.host_intake.specs.State.{IntakeState, plan_of_intake}
 use Rattle.host_memory.specs.declared.limits.MemoryPlan.{MemoryPlan}
 use Rattle.host_memory.specs.State.{MemoryState}
 use Rattle.host_model.specs.declared.memory.MemEntry.{MemEntry}
@@ -15,7 +15,8 @@ use Rattle.host_rings.specs.Places.{EachPlace}
 use Rattle.host_rings.specs.RequestEnds.{RingId}
 use Rattle.host_turn.specs.declared.book.Book.{Book}
 use Rattle.host_turn.specs.declared.seat.BookSeat.{BookSeat}
-use Rattle.host_turn.specs.Seats.{IsOutside, book_id, fixed_part, number, opening_of, seat_book, seat_count, seen_by}
+use Rattle.host_turn.specs.Seats.{IsOutside, book_id, fixed_part, number, opening_of, seat_book}
+use Rattle.host_turn.specs.Seats.{seat_count, seen_by}
 use Rattle.host_session.specs.declared.hand.SessionHand.{SessionHand}
 use Rattle.host_session.specs.declared.shared.SessionShared.{SessionShared}
 use Rattle.host_session.specs.declared.spec.SessionSpec.{SessionSpec}
@@ -74,20 +75,23 @@ intake_plan p = record {
 }
 
 -- A seat at one of its books, with this number, which has neither a ticket nor the turn.
-pub record IsSeatIn {S E F : Type 0} (book : TableId) (plan : F) (n : ℕ) (q : BookSeat S E F) : Type 0 where
+pub record IsSeatIn {S E F : Type 0} (book : TableId) (plan : F) (n : ℕ) (q : BookSeat S E F)
+    : Type 0 where
   pub book_is : seat_book q ≡ book
   pub outside : IsOutside q
   pub number_is : number q ≡ n
   pub plan_is : fixed_part q ≡ Some plan
 
--- The part that all share: books that were made for the hands and the client, one seat more at the memory's for the
--- admissions, with nothing done yet; and cells.
+-- The part that all share: books that were made for the hands and the client, one seat more at the
+-- memory's for the admissions, with nothing done yet; and cells.
 pub record IsShared (p : SessionPlan) (shared : SessionShared) : Type 0 where
   pub books : (book_id shared.intake ≡ p.intake) × (book_id shared.memory ≡ p.memory)
   pub cells : cells_id shared.cells ≡ p.cells
   pub seats : (seat_count shared.intake ≡ p.hands + 1) × (seat_count shared.memory ≡ p.hands + 2)
-  pub plans : (plan_of (opening_of shared.intake) ≡ intake_plan p) × ((opening_of shared.memory).plan ≡ memory_plan p)
-  pub nothing : ((opening_of shared.intake).entries ≡ []) × ((opening_of shared.memory).entries ≡ [])
+  pub plans : (plan_of_intake (opening_of shared.intake) ≡ intake_plan p)
+      × ((opening_of shared.memory).plan ≡ memory_plan p)
+  pub nothing : ((opening_of shared.intake).entries ≡ [])
+      × ((opening_of shared.memory).entries ≡ [])
 
 -- hand k: its seats and its end of the answer ring have its number
 pub record IsHand (p : SessionPlan) (k : ℕ) (hand : SessionHand) : Type 0 where
@@ -96,7 +100,7 @@ pub record IsHand (p : SessionPlan) (k : ℕ) (hand : SessionHand) : Type 0 wher
   pub sender : (hand.sender.ring ≡ p.answers) × (hand.sender.number ≡ k)
 
 -- it has seen nothing, and done nothing
-pub record IsFresh (hand : SessionHand) : Type 0 where
+pub record IsFreshHand (hand : SessionHand) : Type 0 where
   pub intake : seen_by hand.intake ≡ []
   pub memory : seen_by hand.memory ≡ []
   pub sender : hand.sender.pushed ≡ []

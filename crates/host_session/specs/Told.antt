@@ -1,5 +1,6 @@
 -- What the buffer history that a client has seen says of its log.
-use Rattle.std.specs.Prelude.{◌≡◌, ℕ, Bool, true, false, ◌||◌, List, length, filter, filter_map, IsTrue}
+use Rattle.std.specs.Prelude.{◌≡◌, ℕ, Bool, true, false, ◌||◌, List, length, filter, filter_map}
+use Rattle.std.specs.Prelude.{IsTrue}
 use Rattle.std.specs.List.{list_all, range_with_len}
 use Rattle.host_memory.specs.Held.{has_blocks}
 use Rattle.host_memory.specs.State.{events}
@@ -11,7 +12,7 @@ use Rattle.host_model.specs.ClientEntries.{is_client, told}
 use Rattle.host_model.specs.Lists.{all_with_before, map_with_before}
 use Rattle.host_model.specs.Log.{given}
 use Rattle.host_model.specs.Pages.{found_by, shown_bytes}
-use Rattle.host_turn.specs.History.{entries_of}
+use Rattle.host_log.specs.History.{entries_of}
 
 abbrev pub is_release : MemEvent → Bool
 is_release (Release id) = true
@@ -27,9 +28,9 @@ finds_blocks before (Fill id block count byte) = has_blocks id before block coun
 finds_blocks before (Show id block count) = has_blocks id before block count
 finds_blocks before _ = true
 
--- The client's entries are those that its log tells; it gave the ids 1, 2, 3 and so on; each show gave what it found,
--- and each fill and show that was done found its blocks.
-pub record IsTold (client size : ℕ) (log : List Event) (h : List MemEntry) : Type 0 where
+-- The client's entries are those that its log tells; it gave the ids 1, 2, 3 and so on; each show
+-- gave what it found, and each fill and show that was done found its blocks.
+pub record IsClientTold (client size : ℕ) (log : List Event) (h : List MemEntry) : Type 0 where
   pub entries : filter is_client (events h) ≡ told log
   pub ids : given log ≡ range_with_len 1 (length (given log))
   pub shows : filter_map shown_bytes log ≡ map_with_before (found_by size) (events h)

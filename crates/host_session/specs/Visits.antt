@@ -5,11 +5,11 @@ use Rattle.host_memory.specs.Held.{has_blocks}
 use Rattle.host_memory.specs.State.{events}
 use Rattle.host_model.specs.declared.memory.MemEntry.{MemEntry}
 use Rattle.host_model.specs.declared.memory.MemEvent.{MemEvent}
-use Rattle.host_turn.specs.History.{Continues}
+use Rattle.host_log.specs.History.{Continues}
 use Rattle.host_turn.specs.Seats.{IsOutside, IsSameSeat, number, seen_by}
 
--- The client's seat entered and found the history h, which goes on from what the seat had seen, with no entries of its
--- own, and has at least so many entries. It left it with these.
+-- The client's seat entered and found the history h, which goes on from what the seat had seen,
+-- with no entries of its own, and has at least so many entries. It left it with these.
 pub record IsVisit (front : ℕ) (old new : MemorySeat) (h own : List MemEntry) : Type 0 where
   pub seat : IsSameSeat old new × IsOutside new
   pub later : Continues (λ e. e.hand) (number old) (seen_by old) h
@@ -26,7 +26,8 @@ entry_where true client what = entry_by client what ∷ []
 entry_where false client what = []
 
 -- A fill or show found the blocks in its buffer, and has an entry; or it didn't, and has none.
-pub record HasTried (front client id block count : ℕ) (what : MemEvent) (done : Bool) (old new : MemorySeat) : Type 0 where
+pub record HasTried (front client id block count : ℕ) (what : MemEvent) (done : Bool)
+    (old new : MemorySeat) : Type 0 where
   pub found : List MemEntry
   pub visit : IsVisit front old new found (entry_where done client what)
   pub answer : done ≡ has_blocks id (events found) block count

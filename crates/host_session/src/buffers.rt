@@ -1,16 +1,18 @@
 //! What a client does with its buffers.
-ghost use Rattle.std.specs.Prelude.{◌≡◌, ◌⊎◌, ◌+◌, ◌*◌, ◌<◌, ◌≤◌, [], ◌∷◌, ◌++◌, false, length, IsTrue, None, Some};
+ghost use Rattle.std.specs.Prelude.{◌≡◌, ◌⊎◌, ◌+◌, ◌*◌, ◌<◌, ◌≤◌, [], ◌∷◌, ◌++◌, false, length};
+ghost use Rattle.std.specs.Prelude.{IsTrue, None, Some};
 ghost use Rattle.host_frames.specs.Seats.{contents, frame_count, pool_id, seat_pool};
 ghost use Rattle.host_memory.specs.Entries.{used_room};
 ghost use Rattle.host_memory.specs.Held.{has_blocks};
-ghost use Rattle.host_memory.specs.State.{client_of, history, size_of};
+ghost use Rattle.host_memory.specs.State.{client_of, history, block_size_of};
 ghost use Rattle.host_model.specs.declared.memory.MemEvent.TheVariants.{Show};
 ghost use Rattle.host_model.specs.Log.{given};
 ghost use Rattle.host_model.specs.declared.event.Event.TheVariants.{NotAttached};
 ghost use Rattle.host_model.specs.Pages.{found_by};
 ghost use Rattle.host_model.specs.Taking.{runs_out_rightly};
-ghost use Rattle.host_turn.specs.History.{Adds};
-ghost use Rattle.host_session.specs.Calls.{IsAttachAnswer, IsAttached, IsBlank, IsClaimAnswer, IsFilled, IsShown, with_event};
+ghost use Rattle.host_log.specs.History.{Adds};
+ghost use Rattle.host_session.specs.Calls.{IsAttachAnswer, HasAttachedBuffer, IsBlank};
+ghost use Rattle.host_session.specs.Calls.{IsClaimAnswer, IsFilled, IsShown, with_event};
 ghost use Rattle.host_session.specs.Client.{room_left};
 ghost use Rattle.host_session.specs.Plan.{IsItsPool, IsShared, id_limit};
 
@@ -40,9 +42,11 @@ impl ClientEnd {
         requires shared { IsShared self.old.plan shared.now }
         requires pool { IsItsPool self.old.plan pool.now seat.old }
         requires pages { (1 ≤ pages) × (pages ≤ 4096) }
-        requires ids { (length (given self.old.log) < self.old.plan.spec.attaches) ⊎ (length (given self.old.log) ≡ 65535) }
+        requires ids { (length (given self.old.log) < self.old.plan.spec.attaches)
+            ⊎ (length (given self.old.log) ≡ 65535) }
         requires room { 1 ≤ room_left self.old }
-        ensures { IsAttachAnswer (frame_count pool.now) pages self.old self.new seat.old seat.new result }
+        ensures { IsAttachAnswer (frame_count pool.now) pages self.old self.new seat.old seat.new
+            result }
     {
         if self.finish.is_some() {
             return Err(AttachError::Closed);
@@ -68,7 +72,8 @@ impl ClientEnd {
         cause
     }
 
-    /// Writes one value into all bytes of these blocks. False where the buffer has no pages, or not all of these.
+    /// Writes one value into all bytes of these blocks. False where the buffer has no pages, or not
+    /// all of these.
     pub fn fill<R: Wait>(
         &mut self,
         rt: &R,
@@ -100,7 +105,8 @@ impl ClientEnd {
         done
     }
 
-    /// Copies these blocks into `into`, which goes into the log. False where the buffer has no pages, or not all of these.
+    /// Copies these blocks into `into`, which goes into the log. False where the buffer has no
+    /// pages, or not all of these.
     pub fn show<R: Wait>(
         &mut self,
         rt: &R,
@@ -140,7 +146,7 @@ impl ClientEnd {
         requires ids { length (given self.old.log) < id_limit self.old.plan.spec }
         requires room { 1 ≤ room_left self.old }
         requires blank { IsBlank self.old.plan.pool claimed }
-        ensures { IsAttached (length (contents claimed)) result self.old self.new }
+        ensures { HasAttachedBuffer (length (contents claimed)) result self.old self.new }
     {
         let pages = claimed.len();
         let mut memory = shared
@@ -166,11 +172,18 @@ fn show_in(
     mut bytes: Bytes,
 ) -> (bool, Bytes)
     requires room { used_room (history memory.old) + 1 ≤ memory.old.plan.limits.room }
-    requires into { length bytes ≡ count * size_of memory.old }
+    requires into { length bytes ≡ count * block_size_of memory.old }
     ensures answer { result.0 ≡ has_blocks id (history memory.old) block count }
-    ensures found { IsTrue result.0 → found_by (size_of memory.old) (history memory.old) (Show id block count) ≡ Some result.1 }
+    ensures found { IsTrue result.0
+        → found_by (block_size_of memory.old) (history memory.old) (Show id block count)
+        ≡ Some result.1 }
     ensures none { result.0 ≡ false → result.1 ≡ [] }
-    ensures done { IsTrue result.0 → memory.new ≡ record memory.old { entries = memory.old.entries ++ record { hand = client_of memory.old; what = Show id block count } ∷ [] } }
+    ensures done { IsTrue result.0
+        → memory.new
+        ≡ record memory.old {
+          entries = memory.old.entries
+              ++ record { hand = client_of memory.old; what = Show id block count } ∷ [];
+        } }
     ensures not_done { result.0 ≡ false → memory.new ≡ memory.old }
     ensures adds { Adds (λ e. e.hand) (client_of memory.old) memory.old.entries memory.new.entries }
 {
@@ -189,7 +202,8 @@ fn claim_pages(
     pages: u32,
 ) -> Result<Pages, AttachError>
     requires seat { seat_pool seat.old ≡ pool_id pool.now }
-    ensures { IsClaimAnswer (frame_count pool.now) (pool_id pool.now) pages seat.old seat.new result }
+    ensures { IsClaimAnswer (frame_count pool.now) (pool_id pool.now) pages seat.old seat.new
+        result }
 {
     let Ok(mut claimed) = Pages::with_room(alloc, pages) else {
         return Err(AttachError::Oom);

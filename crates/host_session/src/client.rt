@@ -25,7 +25,8 @@ use std::snapshot::Snapshot;
 
 /// The client's end of a session. It logs each call of its client.
 ///
-/// Contracts see the session's fixed part, the log, how the session was ended, the fronts that the end knows, and its seats and ends of the rings.
+/// Contracts see the session's fixed part, the log, how the session was ended, the fronts that the
+/// end knows, and its seats and ends of the rings.
 #[derive(Drop)]
 pub struct ClientEnd {
     pub(crate) alloc: Global,
@@ -34,7 +35,8 @@ pub struct ClientEnd {
     pub(crate) pool: Snapshot<Pool>,
     pub(crate) cells: Snapshot<Cells>,
     pub(crate) log: SwitchLog<Event>,
-    // How many records were sent, answers received, buffers given, and answers owed for what was sent.
+    // How many records were sent, answers received, buffers given, and answers owed for what was
+    // sent.
     pub(crate) sent: u32,
     pub(crate) received: u32,
     pub(crate) given: u32,
@@ -51,13 +53,13 @@ pub struct ClientEnd {
 
 impl Model for ClientEnd {
     ghost use Rattle.host_session.specs.Client.{ClientState};
-    ghost use Rattle.host_session.specs.ClientFields.{client_state, IsKept};
+    ghost use Rattle.host_session.specs.ClientFields.{client_state, IsClientKept};
 
     ghost Value = { ClientState };
 
     ghost view = { client_state };
 
-    ghost invariant = { IsKept };
+    ghost invariant = { IsClientKept };
 }
 
 impl ClientEnd {

@@ -1,9 +1,9 @@
 //! The two ends of a session are put together.
 ghost use Rattle.std.specs.Prelude.{◌≡◌, true, length, map, vec_capacity};
-ghost use Rattle.host_session.specs.ClientFields.{HasRoomFor};
+ghost use Rattle.host_session.specs.ClientFields.{HasRoomForHands};
 ghost use Rattle.host_session.specs.Plan.{AreAllHands, IsShared};
 ghost use Rattle.host_session.specs.Keeping.{AreKeptAs};
-ghost use Rattle.host_session.specs.Whole.{IsWhole};
+ghost use Rattle.host_session.specs.Whole.{IsSessionWhole};
 
 use crate::client::ClientEnd;
 use crate::hand::SessionHand;
@@ -14,7 +14,8 @@ use host_log::SwitchLog;
 use host_model::{Event, MemEntry, TakenRow};
 use host_rings::{close_answers, close_requests};
 
-/// What a session leaves: its client's log, the rows of the records taken, and the history of its buffers.
+/// What a session leaves: its client's log, the rows of the records taken, and the history of its
+/// buffers.
 #[derive(Drop)]
 pub struct SessionLogs {
     pub log: SwitchLog<Event>,
@@ -22,7 +23,8 @@ pub struct SessionLogs {
     pub memory: SwitchLog<MemEntry>,
 }
 
-/// Ends a session that is closed, with all its hands, and gives the client's log, the rows of the records taken, and the history of the buffers. It takes no memory.
+/// Ends a session that is closed, with all its hands, and gives the client's log, the rows of the
+/// records taken, and the history of the buffers. It takes no memory.
 pub fn close_session(
     shared: SessionShared,
     client: ClientEnd,
@@ -31,7 +33,8 @@ pub fn close_session(
     requires shared { IsShared client.plan shared }
     requires hands { AreAllHands client.plan hands.items }
     requires closed { client.closed ≡ true }
-    ensures whole { IsWhole client hands.items result.log.items result.rows.items result.memory.items }
+    ensures whole { IsSessionWhole client hands.items result.log.items result.rows.items
+        result.memory.items }
     ensures kept { AreKeptAs client.plan.spec.keeps result }
 {
     let SessionShared {
@@ -78,9 +81,12 @@ pub fn close_session(
 
 // The seats and senders of all hands, by their numbers, in the room that was kept for them.
 fn gather(closing: ClosingRoom, hands: Vec<SessionHand>) -> ClosingRoom
-    requires { HasRoomFor (length hands.items) closing }
-    ensures seats { (result.intake_seats.items ≡ map (λ hand. hand.intake) hands.items) × (result.memory_seats.items ≡ map (λ hand. hand.memory) hands.items) × (result.senders.items ≡ map (λ hand. hand.sender) hands.items) }
-    ensures room { (vec_capacity result.intake_seats ≡ vec_capacity closing.intake_seats) × (vec_capacity result.memory_seats ≡ vec_capacity closing.memory_seats) }
+    requires { HasRoomForHands (length hands.items) closing }
+    ensures seats { (result.intake_seats.items ≡ map (λ hand. hand.intake) hands.items)
+        × (result.memory_seats.items ≡ map (λ hand. hand.memory) hands.items)
+        × (result.senders.items ≡ map (λ hand. hand.sender) hands.items) }
+    ensures room { (vec_capacity result.intake_seats ≡ vec_capacity closing.intake_seats)
+        × (vec_capacity result.memory_seats ≡ vec_capacity closing.memory_seats) }
 {
     let ClosingRoom {
         mut intake_seats,

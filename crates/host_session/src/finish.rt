@@ -1,17 +1,21 @@
 //! How a client ends its session.
-ghost use Rattle.std.specs.Prelude.{◌≡◌, ◌+◌, ◌≤◌, [], length, IsSome, IsTrue, MatchBool, if◌then◌else◌, nat_lt, ◌&&◌, None};
+ghost use Rattle.std.specs.Prelude.{◌≡◌, ◌+◌, ◌≤◌, [], length, IsSome, IsTrue, MatchBool};
+ghost use Rattle.std.specs.Prelude.{if◌then◌else◌, nat_lt, ◌&&◌, None};
 ghost use Rattle.host_frames.specs.Seats.{pool_id, seat_pool};
 ghost use Rattle.host_intake.specs.Entries.{maker_of};
-ghost use Rattle.host_intake.specs.State.{plan_of};
+ghost use Rattle.host_intake.specs.State.{plan_of_intake};
 ghost use Rattle.host_intake.specs.Told.{is_ending, phase_in};
 ghost use Rattle.host_memory.specs.Held.{first_held};
 ghost use Rattle.host_memory.specs.Pins.{pins_left};
 ghost use Rattle.host_memory.specs.State.{history};
-ghost use Rattle.host_turn.specs.History.{Adds};
+ghost use Rattle.host_log.specs.History.{Adds};
 ghost use Rattle.host_turn.specs.Seats.{IsSeatOutside, number, seen_by};
 ghost use Rattle.host_session.specs.Calls.{IsFinished};
 ghost use Rattle.host_session.specs.Client.{phase_for};
-ghost use Rattle.host_session.specs.Closing.{AreOfPool, HasDropped, HasTurned, IsAttempt, IsAttemptInTurn, IsCloseAnswer, IsEnding, IsFreed, IsPinned, IsReleaseAnswer, IsTurnedTo, is_landed};
+ghost use Rattle.host_session.specs.Closing.{AreOfPool, HasDropped, HasTurned, IsAttempt};
+ghost use Rattle.host_session.specs.Closing.{IsAttemptInTurn, IsCloseAnswer, IsEndingSession};
+ghost use Rattle.host_session.specs.Closing.{IsMemoryFreed, IsPinned, IsReleaseAnswer, IsTurnedTo};
+ghost use Rattle.host_session.specs.Closing.{is_landed};
 ghost use Rattle.host_session.specs.Plan.{IsItsPool, IsShared};
 
 use crate::client::{ClientEnd, is_drained};
@@ -25,7 +29,8 @@ use host_turn::{Book, BookSeat, Story};
 use std::sync::Wait;
 
 impl ClientEnd {
-    /// Ends the session: no more is sent. After a drain all that was sent is taken and answered; after an abort no more is taken, and no answer is received.
+    /// Ends the session: no more is sent. After a drain all that was sent is taken and answered;
+    /// after an abort no more is taken, and no answer is received.
     pub fn finish<R: Wait>(&mut self, rt: &R, shared: &SessionShared, how: Finish)
         requires shared { IsShared self.old.plan shared.now }
         requires open { self.old.finish ≡ None }
@@ -39,7 +44,8 @@ impl ClientEnd {
         }
     }
 
-    /// Closes the session if nothing is left to do, and tells whether it is closed now. All pages then go back, with this seat of the pool.
+    /// Closes the session if nothing is left to do, and tells whether it is closed now. All pages
+    /// then go back, with this seat of the pool.
     pub fn close_if_done<R: Wait>(
         &mut self,
         rt: &R,
@@ -125,7 +131,8 @@ pub(crate) struct Attempt {
     memory_front: u64,
 }
 
-// Shuts the intake where so many records were taken, nothing is in flight or kept, and no buffer is pinned. The buffers' pages then go back. All of it is looked at under one turn of the intake.
+// Shuts the intake where so many records were taken, nothing is in flight or kept, and no buffer is
+// pinned. The buffers' pages then go back. All of it is looked at under one turn of the intake.
 fn try_to_close<R: Wait>(
     rt: &R,
     shared: &SessionShared,
@@ -137,11 +144,13 @@ fn try_to_close<R: Wait>(
     pool: &Pool,
     seat: &mut PoolSeat,
 ) -> Attempt
-    requires intake { IsSeatOutside shared.now.intake intake_seat.old × IsEnding client intake_seat.old }
+    requires intake { IsSeatOutside shared.now.intake intake_seat.old
+        × IsEndingSession client intake_seat.old }
     requires memory { IsSeatOutside shared.now.memory memory_seat.old }
     requires front { length (seen_by memory_seat.old) ≤ front }
     requires pool { AreOfPool client memory_seat.old seat.old (pool_id pool.now) }
-    ensures { IsAttempt client wanted front intake_seat.old intake_seat.new memory_seat.old memory_seat.new seat.old seat.new result }
+    ensures { IsAttempt client wanted front intake_seat.old intake_seat.new memory_seat.old
+        memory_seat.new seat.old seat.new result }
 {
     let mut intake = shared.intake.enter(rt, intake_seat);
     intake.vouch();
@@ -177,8 +186,9 @@ fn close_in_turn<R: Wait>(
     requires memory { IsSeatOutside book.now memory_seat.old }
     requires front { length (seen_by memory_seat.old) ≤ front }
     requires pool { AreOfPool client memory_seat.old seat.old (pool_id pool.now) }
-    ensures answer { IsAttemptInTurn client wanted front intake.old intake.new memory_seat.old memory_seat.new seat.old seat.new result }
-    ensures plan { plan_of intake.new ≡ plan_of intake.old }
+    ensures answer { IsAttemptInTurn client wanted front intake.old intake.new memory_seat.old
+        memory_seat.new seat.old seat.new result }
+    ensures plan { plan_of_intake intake.new ≡ plan_of_intake intake.old }
     ensures adds { Adds maker_of client intake.old.entries intake.new.entries }
 {
     if !is_landed(intake, wanted) {
@@ -214,7 +224,8 @@ fn release_all<R: Wait>(
 ) -> Attempt
     requires seat { IsSeatOutside book.now memory_seat.old }
     requires pool { AreOfPool client memory_seat.old seat.old (pool_id pool.now) }
-    ensures { IsReleaseAnswer client front memory_seat.old memory_seat.new seat.old seat.new result }
+    ensures { IsReleaseAnswer client front memory_seat.old memory_seat.new seat.old seat.new
+        result }
 {
     let mut memory = book.enter_past(rt, memory_seat, front);
     memory.vouch();
@@ -229,8 +240,10 @@ fn release_all<R: Wait>(
 
 // Where no pin is left, the buffers that hold pages are released.
 fn drop_where_free(memory: &mut Memory, client: u32, pool: &Pool, seat: &mut PoolSeat) -> bool
-    requires pool { (memory.old.plan.pool ≡ pool_id pool.now) × (seat_pool seat.old ≡ pool_id pool.now) }
-    ensures answer { MatchBool result (IsFreed client memory.old memory.new seat.old seat.new) (IsPinned memory.old memory.new seat.old seat.new) }
+    requires pool { (memory.old.plan.pool ≡ pool_id pool.now)
+        × (seat_pool seat.old ≡ pool_id pool.now) }
+    ensures answer { MatchBool result (IsMemoryFreed client memory.old memory.new seat.old seat.new)
+        (IsPinned memory.old memory.new seat.old seat.new) }
     ensures plan { memory.new.plan ≡ memory.old.plan }
     ensures adds { Adds (λ e. e.hand) client memory.old.entries memory.new.entries }
 {
@@ -244,7 +257,8 @@ fn drop_where_free(memory: &mut Memory, client: u32, pool: &Pool, seat: &mut Poo
 // No pin is left: the buffers that hold pages are released one by one.
 fn drop_all(memory: &mut Memory, client: u32, pool: &Pool, seat: &mut PoolSeat)
     requires pins { length (pins_left (history memory.old)) ≡ 0 }
-    requires pool { (memory.old.plan.pool ≡ pool_id pool.now) × (seat_pool seat.old ≡ pool_id pool.now) }
+    requires pool { (memory.old.plan.pool ≡ pool_id pool.now)
+        × (seat_pool seat.old ≡ pool_id pool.now) }
     ensures none { first_held (history memory.new) ≡ None }
     ensures dropped { HasDropped client memory.old memory.new seat.old seat.new }
     ensures adds { Adds (λ e. e.hand) client memory.old.entries memory.new.entries }

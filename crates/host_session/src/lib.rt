@@ -1,4 +1,5 @@
-//! Both ends of a session: what its client does, what its hands share, and how the two are put together at the end.
+//! Both ends of a session: what its client does, what its hands share, and how the two are put
+//! together at the end.
 #![tactic(auto)]
 
 mod buffers;

@@ -1,5 +1,6 @@
 //! Records go out, and answers come in.
-ghost use Rattle.std.specs.Prelude.{◌≡◌, ◌+◌, ◌<◌, ◌≤◌, if◌then◌else◌, true, false, length, MatchOption, Some};
+ghost use Rattle.std.specs.Prelude.{◌≡◌, ◌+◌, ◌<◌, ◌≤◌, if◌then◌else◌, true, false, length};
+ghost use Rattle.std.specs.Prelude.{MatchOption, Some};
 ghost use Rattle.host_model.specs.Groups.{is_owing};
 ghost use Rattle.host_model.specs.Log.{received, sent};
 ghost use Rattle.host_record.specs.Request.{request_of};
@@ -14,10 +15,19 @@ use crate::error::SendError;
 use crate::shared::SessionShared;
 use host_model::Event;
 use host_record::{Request, Response};
-use host_rings::{Envelope, Slip, SlipTaker};
+use host_rings::{Envelope, Note, Slip, SlipTaker};
 use std::sync::Wait;
 
 impl ClientEnd {
+    /// A note of all that was sent so far, for those that take it.
+    pub fn tell(&mut self) -> Note
+        ensures same { self.new ≡ self.old }
+        ensures ring { result.ring ≡ self.old.plan.requests }
+        ensures count { length result.pushed ≡ length (sent self.old.log) }
+    {
+        self.sender.tell()
+    }
+
     /// Sends a record of 32 bytes, and tells its index.
     pub fn send<R: Wait>(
         &mut self,
@@ -69,7 +79,8 @@ impl ClientEnd {
     }
 }
 
-// How many answers are owed, once this record was sent: one more for a lone record, or one that closes its group.
+// How many answers are owed, once this record was sent: one more for a lone record, or one that
+// closes its group.
 fn owed_after(owed: u32, bytes: &[u8; 32]) -> u32
     requires { owed < 4294967295 }
     ensures { result ≡ owed + (if is_owing (request_of bytes.now) then 1 else 0) }
@@ -103,7 +114,8 @@ fn next_answer<R: Wait>(rt: &R, taker: &mut SlipTaker, sent: u32) -> Option<(Sli
 
 // The answer in a slip, where it answers one of so many records sent.
 fn answer_in(slip: &Slip, sent: u32) -> Option<Response>
-    ensures { MatchOption result (is_answer sent slip.now ≡ false) (λ r. (is_answer sent slip.now ≡ true) × (response_of slip.now.bytes ≡ Some r)) }
+    ensures { MatchOption result (is_answer sent slip.now ≡ false)
+        (λ r. (is_answer sent slip.now ≡ true) × (response_of slip.now.bytes ≡ Some r)) }
 {
     if slip.index < sent {
         Response::from_bytes(&slip.bytes)

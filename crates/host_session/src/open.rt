@@ -1,7 +1,8 @@
 //! A session is opened.
 ghost use Rattle.std.specs.Prelude.{◌≡◌, ◌<◌, ◌≤◌, [], ◌∷◌, ◌++◌, IfOk, vec_len};
 ghost use Rattle.host_frames.specs.Seats.{page_size, pool_id};
-ghost use Rattle.host_session.specs.Opened.{AreDealt, HasNewMemory, HaveRoomAs, IsDealt, IsOpened, IsToDeal};
+ghost use Rattle.host_session.specs.Opened.{AreHandsDealt, HasNewMemory, HaveRoomAs, IsDealt};
+ghost use Rattle.host_session.specs.Opened.{IsSessionOpened, IsToDeal};
 
 use crate::client::ClientEnd;
 use crate::fronts::Fronts;
@@ -20,7 +21,9 @@ use host_turn::{Book, BookSeat};
 use std::alloc::Global;
 use std::snapshot::Snapshot;
 
-/// Opens a session for so many hands: what all share, the client's end, and the hands by their numbers. All memory that the session takes is taken here, but for the pages and for steps. It has `Oom` for an answer only for want of memory.
+/// Opens a session for so many hands: what all share, the client's end, and the hands by their
+/// numbers. All memory that the session takes is taken here, but for the pages and for steps. It
+/// has `Oom` for an answer only for want of memory.
 pub fn open_session(
     alloc: Global,
     spec: SessionSpec,
@@ -30,7 +33,7 @@ pub fn open_session(
     requires hands { (1 ≤ hands) × (hands ≤ 4294967293) }
     requires depth { (1 ≤ spec.depth) × (spec.depth ≤ 128) }
     requires size { page_size pool.now ≡ spec.size }
-    ensures { IfOk result (λ r. IsOpened spec hands (pool_id pool.now) r.0 r.1 r.2.items) }
+    ensures { IfOk result (λ r. IsSessionOpened spec hands (pool_id pool.now) r.0 r.1 r.2.items) }
 {
     let (memory, mut memory_seats) = open_memory(alloc, &spec, hands, pool)?;
     let admissions = memory.hand_out(&mut memory_seats);
@@ -132,7 +135,8 @@ fn deal(
     closing: &mut ClosingRoom,
 ) -> Result<Vec<SessionHand>, Oom>
     requires { IsToDeal intake.now memory.now closing.old }
-    ensures { IfOk result (λ all. AreDealt intake.now memory.now closing.old closing.new all.items) }
+    ensures { IfOk result
+        (λ all. AreHandsDealt intake.now memory.now closing.old closing.new all.items) }
 {
     let Ok(mut all) = Vec::with_capacity(alloc, closing.senders.len()) else {
         return Err(Oom);

@@ -1,16 +1,11 @@
 -- A copy of an image in memory: its blocks, and where they come from.
 use Rattle.std.proofs.Common.{◌≡◌, ℕ, ◌*◌, ◌/◌, ◌+◌, ◌<◌, List, length, sym, ◌∙◌, ap, subst, arith}
 use Rattle.std.proofs.lemmas.Nat.{div-mul-add}
-use Rattle.host_block.specs.Disk.{DiskState, IsImage, IsOfSize, fresh}
-use Rattle.host_block.specs.Size.{IsBlockSize}
-use Rattle.host_io.specs.Copies.{bytes_of}
-use Rattle.host_io.specs.Flat.{image_of}
-use Rattle.host_io.specs.FlatShape.{cut_of_size, length-cut}
-use Rattle.host_io.specs.MemDisk.{state_of}
+use Rattle.host_block.specs.{DiskState, IsImage, IsOfSize, fresh, IsBlockSize}
+use Rattle.host_io.specs.{bytes_of, image_of, cut_of_size, length-cut, state_of}
 use Rattle.host_io.specs.declared.mem_disk.MemDisk.{MemDisk}
 use Rattle.host_io.proofs.CopyLemmas.{fresh_bytes_proof, fresh_is_image_proof, joined_is_cut_proof}
-use Rattle.host_start.specs.Copies.{image_in}
-use Rattle.host_start.specs.declared.copy.ImageCopy.{ImageCopy}
+use Rattle.host_start.specs.{image_in, ImageCopy}
 
 of_size : (d : MemDisk) → IsOfSize d.blocks d.size (state_of d)
 of_size d = cut_of_size d.blocks d.size d.bytes.items d.waiting.items d.whole d.fitting

@@ -1,23 +1,15 @@
 -- What the stages after the script say together.
 use Rattle.std.proofs.Common.{◌≡◌, ◌≤◌, ℕ, Bool, List, length, refl, sym, ◌∙◌, ap, subst, arith, Option, Some, None}
 use Rattle.std.specs.Prelude.{IsTrue, Result, Ok, Err, IfOk, IfErr, IfSome, OnOk}
-use Rattle.host_block.specs.Disk.{DiskState, fresh}
-use Rattle.host_gpt.specs.Image.{current_image}
-use Rattle.host_io.specs.Causes.{Rose}
-use Rattle.host_io.specs.Disks.{Shape}
-use Rattle.host_start.specs.Copies.{image_in}
-use Rattle.host_start.specs.declared.copy.ImageCopy.{ImageCopy}
-use Rattle.host_start.specs.declared.ready.NotReady.{NotReady}
-use Rattle.host_start.specs.declared.ready.ReadyCopy.{ReadyCopy}
-use Rattle.host_start.specs.Images.{IsAttached, IsLayoutOn, IsPlaced, IsSmallEnough, SaysOfBlocks, SaysOfImage, SaysOfTable}
-use Rattle.host_start.specs.Refusals.{IsAfterScript, IsOfContent, IsOfImage, IsOfTable}
+use Rattle.host_block.specs.{DiskState, fresh}
+use Rattle.host_gpt.specs.{current_image}
+use Rattle.host_io.specs.{Rose, Shape}
+use Rattle.host_start.specs.{image_in, ImageCopy, NotReady, ReadyCopy, IsAttached, IsLayoutOn, IsPlaced, IsSmallEnough, SaysOfBlocks, SaysOfImage, SaysOfTable, IsAfterScript, IsOfContent, IsImageError, IsOfTable, StartError, Start}
 use Rattle.host_start.specs.declared.error.Limit.TheVariants as limit
-use Rattle.host_start.specs.declared.error.StartError.{StartError}
 use Rattle.host_start.specs.declared.error.StartError.TheVariants as error
-use Rattle.host_start.specs.declared.start.Start.{Start}
 
 -- refusals of the image come after the script
-pub after_image : (e : StartError) → IsOfImage e → IsAfterScript e
+pub after_image : (e : StartError) → IsImageError e → IsAfterScript e
 after_image error.Source is = is
 after_image (error.BadScript line cause) is = is
 after_image (error.TooLarge limit.ScriptBytes) is = is
@@ -62,7 +54,7 @@ says_of_image image parts (error.NoPart session part) small is says = (small, sa
 says_of_image image parts error.Oom small is says = tt
 
 -- what is said of no session is said of every one
-pub says_early : (image : List (List ℕ)) (none parts : List ℕ) (e : StartError) → IsOfImage e → SaysOfImage image none e → SaysOfImage image parts e
+pub says_early : (image : List (List ℕ)) (none parts : List ℕ) (e : StartError) → IsImageError e → SaysOfImage image none e → SaysOfImage image parts e
 says_early image none parts error.Source is says = tt
 says_early image none parts (error.BadScript line cause) is says = tt
 says_early image none parts (error.TooLarge limit.ScriptBytes) is says = tt
@@ -133,7 +125,7 @@ fresh_by (Err e) s s' t kept attached = tt
 -- ---- a copy
 
 -- refusals of the image aren't of its content
-pub image_not_content : (e : StartError) → IsOfImage e → ¬ IsOfContent e
+pub image_not_content : (e : StartError) → IsImageError e → ¬ IsOfContent e
 image_not_content error.Source is content = is
 image_not_content (error.BadScript line cause) is content = is
 image_not_content (error.TooLarge limit.ScriptBytes) is content = is

@@ -4,24 +4,16 @@ use Rattle.std.specs.Prelude.{◌↔◌, All, IsErrOf, Result, Ok, Err, is_ok, i
 use Rattle.std.proofs.lemmas.List.{get_or-map, length-map, map-append}
 use Rattle.std.proofs.lemmas.List.Elements.{All-map, All-push, All-same, All-weaker}
 use Rattle.host_block.specs.declared.range.Range.{Range}
-use Rattle.host_gpt.specs.Entries.{AreUsed}
-use Rattle.host_part.specs.Ranges.{IsBad, IsRangeOf, IsUnused}
-use Rattle.host_part.specs.Served.{Layout, layout_of}
-use Rattle.host_part.specs.declared.part_error.PartError.{PartError}
-use Rattle.host_part.specs.declared.part_error.PartError.TheVariants.{Unused, BadEntry}
+use Rattle.host_gpt.specs.{AreUsed, IsTableOf, Which}
+use Rattle.host_part.specs.{IsBad, IsRangeOf, IsNumberUnused, Layout, layout_of, PartError, Unused, BadEntry}
 use Rattle.host_part.proofs.RangeLemmas.{entry_not_unused, served_not_bad}
-use Rattle.host_gpt.specs.Reads.{IsTableOf}
 use Rattle.host_gpt.specs.declared.table.Table.{Table}
-use Rattle.host_gpt.specs.declared.which.Which.{Which}
-use Rattle.host_start.specs.Images.{ArePlaces, FindsPlaces, IsFirstUnserved, IsLayoutOn, IsServedPart, SaysOfTable, parts_of}
-use Rattle.host_start.specs.declared.error.StartError.{StartError}
+use Rattle.host_start.specs.{ArePlaces, FindsPlaces, IsFirstUnserved, IsLayoutOn, IsServedPart, SaysOfTable, parts_of, StartError, Place}
 use Rattle.host_start.specs.declared.error.StartError.TheVariants as error
-use Rattle.host_start.specs.declared.places.Place.{Place}
-use Rattle.script_model.specs.Plans.{plan_of}
-use Rattle.script_model.specs.declared.script.SessionScript.{SessionScript}
+use Rattle.script_model.specs.{plan_of, SessionScript}
 
 -- a number without a range isn't served
-pub not_served : (layout : Layout) (part : ℕ) (error : PartError) → AreUsed layout.entries → IsErrOf {T = Range} (Err error) Unused ↔ IsUnused layout part
+pub not_served : (layout : Layout) (part : ℕ) (error : PartError) → AreUsed layout.entries → IsErrOf {T = Range} (Err error) Unused ↔ IsNumberUnused layout part
     → IsErrOf {T = Range} (Err error) BadEntry ↔ IsBad layout part → ¬ IsServedPart layout part
 not_served layout part Unused used unused bad (range, is) = entry_not_unused layout part is.entry is.is (unused.0 refl)
 not_served layout part BadEntry used unused bad (range, is) = served_not_bad layout part is.entry used is.is is.served (bad.0 refl)

@@ -3,20 +3,13 @@ use Rattle.std.proofs.Common.{◌≡◌, ℕ, ◌≤◌, Bool, true, false, cond
 use Rattle.std.specs.Prelude.{nat_lt, IfOk}
 use Rattle.std.proofs.lemmas.Bool.{ltb-false}
 use Rattle.std.proofs.lemmas.List.{length-map, length-take-le}
-use Rattle.host_start.specs.Reading.{GivesScript, GivesText, IsFit, IsPast, IsTaken, Judges, Makes, Means, TakesMore}
-use Rattle.host_start.specs.declared.error.Limit.{Limit}
+use Rattle.host_start.specs.{GivesScript, GivesText, IsFit, IsPast, IsTaken, Judges, Makes, Means, TakesMore, Limit, StartError, IsOfScript, IsOfSource, limit_in}
 use Rattle.host_start.specs.declared.error.Limit.TheVariants as limit
-use Rattle.host_start.specs.declared.error.StartError.{StartError}
 use Rattle.host_start.specs.declared.error.StartError.TheVariants as error
-use Rattle.script_model.specs.Generate.{generated}
-use Rattle.script_model.specs.Limit.{limit_of}
-use Rattle.script_model.specs.Planned.{can_be_said}
+use Rattle.script_model.specs.{generated, limit_of, can_be_said, PlannedSession, plan_of, plans_of, script_of}
 use Rattle.script_model.proofs.SaidScript.{generated_fits, script_fits}
-use Rattle.script_model.specs.Plans.{SessionPlan, plan_of, plans_of}
-use Rattle.script_model.specs.Script.{script_of}
 use Rattle.script_model.specs.declared.limit.Limit.{Limit as ScriptLimit}
 use Rattle.script_model.specs.declared.limit.Limit.TheVariants as script
-use Rattle.host_start.specs.Refusals.{IsOfScript, IsOfSource, limit_in}
 use Rattle.script_model.specs.declared.script.Script.{Script}
 
 -- ---- the limit of sessions
@@ -43,7 +36,7 @@ means_fit size text (Err e) means = tt
 pub makes_fit : (size seed sessions requests : ℕ) (r : Result Script StartError) → sessions ≤ 16 → Makes size (generated seed sessions requests) r → IfOk r (λ (s : Script). IsFit size (plans_of s))
 makes_fit size seed sessions requests (Ok script) few (made, limits) = record {
   said = ap can_be_said made ∙ generated_fits seed sessions requests few;
-  limits = ap (λ (p : List SessionPlan). limit_of size p) made ∙ limits;
+  limits = ap (λ (p : List PlannedSession). limit_of size p) made ∙ limits;
 }
 makes_fit size seed sessions requests (Err e) few makes = tt
 
@@ -83,7 +76,7 @@ not_bytes script.Sessions same = cc
 not_bytes script.Records same = cc
 not_bytes script.Moved same = cc
 
-past : (size : ℕ) (text new_left : List ℕ) (plans : List SessionPlan) (what : Limit) → new_left ≡ [] → length text ≤ 1048576 → script_of text ≡ Ok plans → IsPast size plans what
+past : (size : ℕ) (text new_left : List ℕ) (plans : List PlannedSession) (what : Limit) → new_left ≡ [] → length text ≤ 1048576 → script_of text ≡ Ok plans → IsPast size plans what
     → GivesScript size text new_left (Err (error.TooLarge what))
 past size text new_left plans limit.ScriptBytes end short meant is = absurd (not_bytes is.passed is.named)
 past size text new_left plans limit.Sessions end short meant is = record { end = end; is = record { short = short; plans = plans; meant = meant; past = is } }
@@ -121,9 +114,9 @@ means size text script (Err error.NoTable) meant is = absurd is
 means size text script (Err (error.NoPart session part)) meant is = absurd is
 
 -- a generated script that was judged
-pub makes : (size : ℕ) (plans : List SessionPlan) (script : Script) (r : Result Script StartError) → plans_of script ≡ plans → Judges size script r → Makes size plans r
-makes size plans script (Ok judged) made (same, fits) = (ap plans_of same ∙ made, ap (λ (p : List SessionPlan). limit_of size p) (sym made) ∙ fits)
-makes size plans script (Err (error.TooLarge what)) made is = subst (λ (p : List SessionPlan). IsPast size p what) made is
+pub makes : (size : ℕ) (plans : List PlannedSession) (script : Script) (r : Result Script StartError) → plans_of script ≡ plans → Judges size script r → Makes size plans r
+makes size plans script (Ok judged) made (same, fits) = (ap plans_of same ∙ made, ap (λ (p : List PlannedSession). limit_of size p) (sym made) ∙ fits)
+makes size plans script (Err (error.TooLarge what)) made is = subst (λ (p : List PlannedSession). IsPast size p what) made is
 makes size plans script (Err (error.BadScript line cause)) made is = absurd is
 makes size plans script (Err error.Oom) made is = tt
 makes size plans script (Err error.Source) made is = absurd is

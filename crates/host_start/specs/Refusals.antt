@@ -49,11 +49,11 @@ IsOfScript error.Oom = Unit {0}
 IsOfScript _ = ⊥
 
 -- refusals of the image, before its table is read
-abbrev pub IsOfImage : StartError → Type 0
-IsOfImage error.Disk = Unit {0}
-IsOfImage (error.TooLarge limit.Blocks) = Unit {0}
-IsOfImage error.Oom = Unit {0}
-IsOfImage _ = ⊥
+abbrev pub IsImageError : StartError → Type 0
+IsImageError error.Disk = Unit {0}
+IsImageError (error.TooLarge limit.Blocks) = Unit {0}
+IsImageError error.Oom = Unit {0}
+IsImageError _ = ⊥
 
 -- what is told of a table that was read, or of a partition that it doesn't serve
 abbrev pub IsOfContent : StartError → Type 0

@@ -4,7 +4,7 @@ ghost use Rattle.host_io.specs.Causes.{Rose};
 ghost use Rattle.host_io.specs.Disks.{Attaches, OnlyReads};
 ghost use Rattle.host_start.specs.Copies.{HasAttached};
 ghost use Rattle.host_start.specs.Images.{Attached, SaysOfBlocks};
-ghost use Rattle.host_start.specs.Refusals.{IsOfImage};
+ghost use Rattle.host_start.specs.Refusals.{IsImageError};
 ghost use Rattle.host_start.specs.declared.error.StartError.TheVariants.{Disk as DiskFails};
 
 use crate::{Limit, StartError};
@@ -21,14 +21,19 @@ pub fn attach<D: Disk>(
     size: BlockSize,
     writes: bool,
 ) -> Result<u64, StartError>
-    ensures cause { IfErr result IsOfImage }
-    ensures fault { IsErrOf result DiskFails → Rose (D.counts disk.old).faults (D.counts disk.new).faults }
-    ensures only_reads { OnlyReads (D.counts disk.old) (D.counts disk.new) (D.never_fails disk.old) (D.never_fails disk.new) }
+    ensures cause { IfErr result IsImageError }
+    ensures fault { IsErrOf result DiskFails
+        → Rose (D.counts disk.old).faults (D.counts disk.new).faults }
+    ensures only_reads { OnlyReads (D.counts disk.old) (D.counts disk.new) (D.never_fails disk.old)
+        (D.never_fails disk.new) }
     ensures opening { D.opening disk.new ≡ D.opening disk.old }
-    ensures attaches { Attaches size writes (D.image_named disk.old image.now size) (D.shape disk.old) (D.shape disk.new) (D.state disk.new) result }
-    ensures attached { IsTrue (D.shape disk.old).tells → Attached (D.image_named disk.old image.now size) result }
+    ensures attaches { Attaches size writes (D.image_named disk.old image.now size)
+        (D.shape disk.old) (D.shape disk.new) (D.state disk.new) result }
+    ensures attached { IsTrue (D.shape disk.old).tells
+        → Attached (D.image_named disk.old image.now size) result }
 
-    // How it is attached, and that the disk has too many blocks where that is the cause: known of every disk.
+    // How it is attached, and that the disk has too many blocks where that is the cause: known of
+    // every disk.
     ensures is_attached { HasAttached result → IsTrue (D.shape disk.new).attached }
     ensures as_asked { HasAttached result → (D.shape disk.new).writable ≡ writes }
     ensures of_size { HasAttached result → (D.shape disk.new).size ≡ size }

@@ -10,8 +10,8 @@ use host_block::BlockSize;
 use host_io::{Disk, MemDisk, copy_image};
 use std::alloc::Global;
 
-/// A disk in memory that never fails, on which nothing was written yet: the image of so many blocks of this size that it was
-/// made with is attached.
+/// A disk in memory that never fails, on which nothing was written yet: the image of so many blocks
+/// of this size that it was made with is attached.
 #[derive(Drop)]
 pub struct ImageCopy {
     pub disk: MemDisk,
@@ -34,7 +34,7 @@ impl ImageCopy {
     ghost use Rattle.host_io.specs.Flat.{image_of};
     ghost use Rattle.host_start.specs.Copies.{Copies, HasAttached, image_in};
     ghost use Rattle.host_start.specs.Images.{SaysOfBlocks};
-    ghost use Rattle.host_start.specs.Refusals.{IsOfImage};
+    ghost use Rattle.host_start.specs.Refusals.{IsImageError};
     ghost use Rattle.host_start.specs.declared.error.StartError.TheVariants.{Disk as DiskFails};
 
     /// A copy of the image of this name, which `disk` attaches to read alone.
@@ -44,16 +44,19 @@ impl ImageCopy {
         image: &str,
         size: BlockSize,
     ) -> Result<ImageCopy, StartError>
-        ensures cause { IfErr result IsOfImage }
-        ensures fault { IsErrOf result DiskFails → Rose (D.counts disk.old).faults (D.counts disk.new).faults }
-        ensures only_reads { OnlyReads (D.counts disk.old) (D.counts disk.new) (D.never_fails disk.old) (D.never_fails disk.new) }
+        ensures cause { IfErr result IsImageError }
+        ensures fault { IsErrOf result DiskFails
+            → Rose (D.counts disk.old).faults (D.counts disk.new).faults }
+        ensures only_reads { OnlyReads (D.counts disk.old) (D.counts disk.new)
+            (D.never_fails disk.old) (D.never_fails disk.new) }
         ensures opens_none { OpensNone (D.shape disk.old) (D.shape disk.new) }
         ensures is_attached { HasAttached result → IsTrue (D.shape disk.new).attached }
         ensures read_alone { HasAttached result → (D.shape disk.new).writable ≡ false }
         ensures of_size { HasAttached result → (D.shape disk.new).size ≡ size }
         ensures blocks { IfErr result (SaysOfBlocks (D.shape disk.new).blocks) }
         ensures counted { IfOk result (λ copy. copy.blocks ≡ (D.shape disk.new).blocks) }
-        ensures copied { IsTrue (D.shape disk.old).tells → Copies (D.image_named disk.old image.now size) result }
+        ensures copied { IsTrue (D.shape disk.old).tells
+            → Copies (D.image_named disk.old image.now size) result }
         ensures size { IfOk result (λ copy. copy.size ≡ size) }
         ensures few { IfOk result (λ copy. copy.blocks ≤ 262144) }
     {

@@ -1,7 +1,8 @@
 // Why a run is refused before its sessions begin.
 ghost use Rattle.std.specs.Prelude.{◌≡◌};
 ghost use Rattle.host_start.specs.Refusals.{limit_in, of_disk_error, of_table_error};
-ghost use Rattle.host_start.specs.declared.error.StartError.TheVariants.{Oom as NoMemory, Source as SourceFails};
+ghost use Rattle.host_start.specs.declared.error.StartError.TheVariants.{Oom as NoMemory};
+ghost use Rattle.host_start.specs.declared.error.StartError.TheVariants.{Source as SourceFails};
 
 use host_block::Oom;
 use host_gpt::TableError;

@@ -1,4 +1,5 @@
-//! What stands before the sessions of a run: the script, the image and the partitions of the sessions.
+//! What stands before the sessions of a run: the script, the image and the partitions of the
+//! sessions.
 #![tactic(auto)]
 
 mod attach;

@@ -28,7 +28,8 @@ pub fn find_places(
     requires used { AreUsed parts.now.entries }
     ensures cause { IfErr result IsOfTable }
     ensures finds { FindsPlaces parts.now (map (λ session. session.part) sessions.now) result }
-    ensures inside { IfOk result (λ places. All (λ place. place.range.first + place.range.count ≤ parts.now.blocks) places.items) }
+    ensures inside { IfOk result (λ places.
+        All (λ place. place.range.first + place.range.count ≤ parts.now.blocks) places.items) }
 {
     let mut places = Vec::new(alloc);
     for session in sessions {

@@ -1,10 +1,12 @@
 // From a script and a disk to what a run needs.
-ghost use Rattle.std.specs.Prelude.{◌≡◌, ◌↔◌, ◌≤◌, IfOk, IfErr, IfSome, OnOk, IsErrOf, IsSome, IsTrue, false, length, true};
+ghost use Rattle.std.specs.Prelude.{◌≡◌, ◌↔◌, ◌≤◌, IfOk, IfErr, IfSome, OnOk, IsErrOf, IsSome};
+ghost use Rattle.std.specs.Prelude.{IsTrue, false, length, true};
 ghost use Rattle.host_block.specs.Disk.{fresh};
 ghost use Rattle.host_io.specs.Causes.{Rose};
 ghost use Rattle.host_io.specs.Disks.{OnlyReads, OpensNone};
 ghost use Rattle.host_start.specs.Copies.{HasAttached, HasStarted, image_in};
-ghost use Rattle.host_start.specs.Images.{IsAttached, IsOpened, IsPlaced, SaysOfBlocks, SaysOfImage, parts_of};
+ghost use Rattle.host_start.specs.Images.{IsAttached, IsDiskOpened, IsPlaced, SaysOfBlocks};
+ghost use Rattle.host_start.specs.Images.{SaysOfImage, parts_of};
 ghost use Rattle.host_start.specs.Reading.{IsFit};
 ghost use Rattle.host_start.specs.Refusals.{IsAfterScript, IsOfContent, IsOfTable};
 ghost use Rattle.host_start.specs.declared.error.StartError.TheVariants.{Disk as DiskFails};
@@ -41,20 +43,28 @@ pub fn start_on_disk<D: Disk>(
 ) -> Result<Start, StartError>
     requires fit { IsFit size (plans_of script) }
     ensures cause { IfErr result IsAfterScript }
-    ensures fault { IsErrOf result DiskFails → Rose (D.counts disk.old).faults (D.counts disk.new).faults }
-    ensures only_reads { OnlyReads (D.counts disk.old) (D.counts disk.new) (D.never_fails disk.old) (D.never_fails disk.new) }
+    ensures fault { IsErrOf result DiskFails
+        → Rose (D.counts disk.old).faults (D.counts disk.new).faults }
+    ensures only_reads { OnlyReads (D.counts disk.old) (D.counts disk.new) (D.never_fails disk.old)
+        (D.never_fails disk.new) }
     ensures script { IfOk result (λ start. start.script ≡ script) }
     ensures size { IfOk result (λ start. start.size ≡ size) }
 
     // The disk is attached, to be written, and holds the image as it was handed in, where it tells.
-    ensures shape { IfOk result (λ start. IsAttached start.blocks size (D.shape disk.old).tells (D.shape disk.new)) }
-    ensures state { IsTrue (D.shape disk.old).tells → OnOk result (D.state disk.new ≡ fresh (D.image_named disk.old image.now size)) }
+    ensures shape { IfOk result
+        (λ start. IsAttached start.blocks size (D.shape disk.old).tells (D.shape disk.new)) }
+    ensures state { IsTrue (D.shape disk.old).tells
+        → OnOk result (D.state disk.new ≡ fresh (D.image_named disk.old image.now size)) }
     ensures opening { D.opening disk.new ≡ D.opening disk.old }
-    ensures opened { HasAttached result → IsOpened size true (D.shape disk.new) }
+    ensures opened { HasAttached result → IsDiskOpened size true (D.shape disk.new) }
 
-    // The start is on that image, or the refusal says its cause. Of the number of blocks it does whether or not the disk tells.
-    ensures placed { IfOk result (IsPlaced (D.shape disk.old).tells (D.image_named disk.old image.now size)) }
-    ensures refused { IsTrue (D.shape disk.old).tells → IfErr result (SaysOfImage (D.image_named disk.old image.now size) (parts_of (plans_of script))) }
+    // The start is on that image, or the refusal says its cause. Of the number of blocks it does
+    // whether or not the disk tells.
+    ensures placed { IfOk result
+        (IsPlaced (D.shape disk.old).tells (D.image_named disk.old image.now size)) }
+    ensures refused { IsTrue (D.shape disk.old).tells
+        → IfErr result
+        (SaysOfImage (D.image_named disk.old image.now size) (parts_of (plans_of script))) }
     ensures refused_blocks { IfErr result (SaysOfBlocks (D.shape disk.new).blocks) }
 {
     match attach(disk, image, size, true) {
@@ -63,7 +73,8 @@ pub fn start_on_disk<D: Disk>(
     }
 }
 
-/// Copies an image, which is attached to be read alone, and looks for the partitions of the sessions in the copy's table.
+/// Copies an image, which is attached to be read alone, and looks for the partitions of the
+/// sessions in the copy's table.
 pub fn start_on_copy<D: Disk>(
     alloc: Global,
     script: Script,
@@ -73,26 +84,38 @@ pub fn start_on_copy<D: Disk>(
 ) -> Result<ReadyCopy, NotReady>
     requires fit { IsFit size (plans_of script) }
     ensures cause { IfErr result (λ no. IsAfterScript no.error) }
-    ensures fault { IfErr result (λ no. no.error ≡ DiskFails → Rose (D.counts disk.old).faults (D.counts disk.new).faults) }
-    ensures only_reads { OnlyReads (D.counts disk.old) (D.counts disk.new) (D.never_fails disk.old) (D.never_fails disk.new) }
+    ensures fault { IfErr result (λ no.
+        no.error ≡ DiskFails → Rose (D.counts disk.old).faults (D.counts disk.new).faults) }
+    ensures only_reads { OnlyReads (D.counts disk.old) (D.counts disk.new) (D.never_fails disk.old)
+        (D.never_fails disk.new) }
     ensures opens_none { OpensNone (D.shape disk.old) (D.shape disk.new) }
-    ensures read_alone { HasStarted result → IsOpened size false (D.shape disk.new) }
+    ensures read_alone { HasStarted result → IsDiskOpened size false (D.shape disk.new) }
     ensures script { IfOk result (λ ready. ready.start.script ≡ script) }
     ensures size { IfOk result (λ ready. ready.start.size ≡ size) }
 
-    // The start is on the copy, which has as many blocks as the disk, and those of the image where that tells.
+    // The start is on the copy, which has as many blocks as the disk, and those of the image where
+    // that tells.
     ensures blocks { IfOk result (λ ready. ready.start.blocks ≡ ready.copy.blocks) }
     ensures disk_blocks { IfOk result (λ ready. ready.start.blocks ≡ (D.shape disk.new).blocks) }
     ensures copy_size { IfOk result (λ ready. ready.copy.size ≡ size) }
     ensures placed { IfOk result (λ ready. IsPlaced true (image_in ready.copy) ready.start) }
-    ensures copied { IsTrue (D.shape disk.old).tells → IfOk result (λ ready. image_in ready.copy ≡ D.image_named disk.old image.now size) }
+    ensures copied { IsTrue (D.shape disk.old).tells
+        → IfOk result (λ ready. image_in ready.copy ≡ D.image_named disk.old image.now size) }
 
     // A refusal says its cause, with the copy where its content is the cause.
-    ensures refused { IsTrue (D.shape disk.old).tells → IfErr result (λ no. SaysOfImage (D.image_named disk.old image.now size) (parts_of (plans_of script)) no.error) }
-    ensures found_on { IfErr result (λ no. IfSome no.copy (λ copy. SaysOfImage (image_in copy) (parts_of (plans_of script)) no.error)) }
-    ensures found { IsTrue (D.shape disk.old).tells → IfErr result (λ no. IfSome no.copy (λ copy. image_in copy ≡ D.image_named disk.old image.now size)) }
+    ensures refused { IsTrue (D.shape disk.old).tells
+        → IfErr result (λ no.
+        SaysOfImage (D.image_named disk.old image.now size) (parts_of (plans_of script))
+        no.error) }
+    ensures found_on { IfErr result (λ no.
+        IfSome no.copy
+        (λ copy. SaysOfImage (image_in copy) (parts_of (plans_of script)) no.error)) }
+    ensures found { IsTrue (D.shape disk.old).tells
+        → IfErr result
+        (λ no. IfSome no.copy (λ copy. image_in copy ≡ D.image_named disk.old image.now size)) }
     ensures found_size { IfErr result (λ no. IfSome no.copy (λ copy. copy.size ≡ size)) }
-    ensures found_blocks { IfErr result (λ no. IfSome no.copy (λ copy. length (image_in copy) ≡ (D.shape disk.new).blocks)) }
+    ensures found_blocks { IfErr result
+        (λ no. IfSome no.copy (λ copy. length (image_in copy) ≡ (D.shape disk.new).blocks)) }
     ensures refused_blocks { IfErr result (λ no. SaysOfBlocks (D.shape disk.new).blocks no.error) }
     ensures handed { IfErr result (λ no. IsSome no.copy ↔ IsOfContent no.error) }
 {
@@ -115,10 +138,12 @@ fn start_on(alloc: Global, script: Script, copy: ImageCopy) -> Result<ReadyCopy,
     ensures copy_size { IfOk result (λ ready. ready.copy.size ≡ copy.size) }
     ensures placed { IfOk result (λ ready. IsPlaced true (image_in ready.copy) ready.start) }
     ensures same { IfOk result (λ ready. image_in ready.copy ≡ image_in copy) }
-    ensures refused { IfErr result (λ no. SaysOfImage (image_in copy) (parts_of (plans_of script)) no.error) }
+    ensures refused { IfErr result
+        (λ no. SaysOfImage (image_in copy) (parts_of (plans_of script)) no.error) }
     ensures found { IfErr result (λ no. IfSome no.copy (λ kept. image_in kept ≡ image_in copy)) }
     ensures found_size { IfErr result (λ no. IfSome no.copy (λ kept. kept.size ≡ copy.size)) }
-    ensures found_blocks { IfErr result (λ no. IfSome no.copy (λ kept. length (image_in kept) ≡ copy.blocks)) }
+    ensures found_blocks { IfErr result
+        (λ no. IfSome no.copy (λ kept. length (image_in kept) ≡ copy.blocks)) }
     ensures refused_blocks { IfErr result (λ no. SaysOfBlocks copy.blocks no.error) }
     ensures handed { IfErr result (λ no. IsSome no.copy ↔ IsOfContent no.error) }
 {

@@ -18,7 +18,8 @@ use std::alloc::Global;
 /// The most bytes that a script may have.
 const SCRIPT_LIMIT: usize = 1_048_576;
 
-/// Reads a script to its end, or past the limit. Its moved bytes are counted in blocks of this size.
+/// Reads a script to its end, or past the limit. Its moved bytes are counted in blocks of this
+/// size.
 pub fn read_script<S: Source>(
     alloc: Global,
     source: &mut S,
@@ -26,7 +27,8 @@ pub fn read_script<S: Source>(
 ) -> Result<Script, StartError>
     ensures cause { IfErr result IsOfScript }
     ensures fault { IsErrOf result SourceFails → Rose (S.faults source.old) (S.faults source.new) }
-    ensures script { IsTrue (S.tells source.old) → GivesScript size (S.left source.old) (S.left source.new) result }
+    ensures script { IsTrue (S.tells source.old)
+        → GivesScript size (S.left source.old) (S.left source.new) result }
     ensures fit { IfOk result (λ script. IsFit size (plans_of script)) }
 {
     let text = take_script(alloc, source)?;
@@ -56,7 +58,8 @@ pub fn make_script(
 fn take_script<S: Source>(alloc: Global, source: &mut S) -> Result<Vec<u8>, StartError>
     ensures cause { IfErr result IsOfScript }
     ensures fault { IsErrOf result SourceFails → Rose (S.faults source.old) (S.faults source.new) }
-    ensures text { IsTrue (S.tells source.old) → GivesText (S.left source.old) (S.left source.new) result }
+    ensures text { IsTrue (S.tells source.old)
+        → GivesText (S.left source.old) (S.left source.new) result }
 {
     let mut text = Vec::new(alloc);
     while text.len() <= SCRIPT_LIMIT {
@@ -78,7 +81,9 @@ fn take_more<S: Source>(source: &mut S, text: &mut Vec<u8>) -> Result<usize, Sta
     ensures later { S.faults source.old ≤ S.faults source.new }
     ensures fault { IsErrOf result SourceFails → Rose (S.faults source.old) (S.faults source.new) }
     ensures length { IfOk result (λ n. length text.new.items ≡ length text.old.items + n) }
-    ensures more { IsTrue (S.tells source.old) → IfOk result (TakesMore (S.left source.old) (S.left source.new) text.old.items text.new.items) }
+    ensures more { IsTrue (S.tells source.old)
+        → IfOk result
+        (TakesMore (S.left source.old) (S.left source.new) text.old.items text.new.items) }
 {
     let mut piece = [0u8; 4096];
     let taken = source.take(&mut piece)?;

@@ -12,7 +12,8 @@ use host_part::serve;
 use script_model::Script;
 use std::alloc::Global;
 
-/// A script, and the image that it is to be played on: its blocks, the header of its table, and the partition of each session.
+/// A script, and the image that it is to be played on: its blocks, the header of its table, and the
+/// partition of each session.
 #[derive(Drop)]
 pub struct Start {
     pub script: Script,
@@ -36,7 +37,8 @@ impl Start {
     ghost use Rattle.host_start.specs.declared.error.StartError.TheVariants.{Disk as DiskFails};
     ghost use Rattle.script_model.specs.Plans.{plans_of};
 
-    /// Reads the table of an attached image of so many blocks, and looks for the partitions of the sessions.
+    /// Reads the table of an attached image of so many blocks, and looks for the partitions of the
+    /// sessions.
     pub(crate) fn on<D: Disk>(
         alloc: Global,
         script: Script,
@@ -49,16 +51,21 @@ impl Start {
         requires blocks { blocks ≡ (D.shape disk.old).blocks }
         requires size { size ≡ (D.shape disk.old).size }
         ensures cause { IfErr result IsOfTable }
-        ensures fault { IsErrOf result DiskFails → Rose (D.counts disk.old).faults (D.counts disk.new).faults }
+        ensures fault { IsErrOf result DiskFails
+            → Rose (D.counts disk.old).faults (D.counts disk.new).faults }
         ensures shape { D.shape disk.new ≡ D.shape disk.old }
         ensures state { D.state disk.new ≡ D.state disk.old }
         ensures opening { D.opening disk.new ≡ D.opening disk.old }
-        ensures only_reads { OnlyReads (D.counts disk.old) (D.counts disk.new) (D.never_fails disk.old) (D.never_fails disk.new) }
+        ensures only_reads { OnlyReads (D.counts disk.old) (D.counts disk.new)
+            (D.never_fails disk.old) (D.never_fails disk.new) }
         ensures script { IfOk result (λ start. start.script ≡ script) }
         ensures blocks { IfOk result (λ start. start.blocks ≡ blocks) }
         ensures size { IfOk result (λ start. start.size ≡ size) }
-        ensures placed { IfOk result (IsPlaced (D.shape disk.old).tells (current_image (D.state disk.old))) }
-        ensures refused { IsTrue (D.shape disk.old).tells → IfErr result (SaysOfTable (current_image (D.state disk.old)) (parts_of (plans_of script))) }
+        ensures placed { IfOk result
+            (IsPlaced (D.shape disk.old).tells (current_image (D.state disk.old))) }
+        ensures refused { IsTrue (D.shape disk.old).tells
+            → IfErr result
+            (SaysOfTable (current_image (D.state disk.old)) (parts_of (plans_of script))) }
     {
         let table = read_table(alloc, disk, blocks, size)?;
         let parts = serve(alloc, &table, blocks)?;

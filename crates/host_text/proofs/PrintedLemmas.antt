@@ -1,9 +1,7 @@
 -- Words of a line, and the words that a block is printed as.
 use Rattle.std.proofs.Common.{◌≡◌, ◌==◌, ℕ, Bool, true, List, [], ◌∷◌, ◌++◌, flat_map, get_or, codes, sym, refl, ◌∙◌, ap, append_assoc, append-nil}
 use Rattle.std.specs.List.{list_all}
-use Rattle.host_text.specs.declared.word.Word.{Word}
-use Rattle.host_text.specs.Printed.{printed, all_printed, after_space, spaced}
-use Rattle.host_text.specs.Words.{block_word, hex_byte, line}
+use Rattle.host_text.specs.{Word, printed, all_printed, after_space, spaced, block_word, hex_byte, line}
 
 -- words with a space between them and a line feed are a line
 pub spaced_line : (words : List Word) → spaced words ++ 10 ∷ [] ≡ line (all_printed words)

@@ -4,10 +4,10 @@ use Rattle.std.specs.Prelude.{IsErr, IsTrue, OnOk}
 use Rattle.std.proofs.lemmas.Grind.{flat_map-append}
 use Rattle.std.proofs.lemmas.List.{append_cancel_left, take_all, take_more, take-append-drop}
 use Rattle.std.proofs.lemmas.Result.{MatchResult-from_err, MatchResult-weaker}
-use Rattle.host_block.specs.Lists.{IsPrefix}
+use Rattle.host_block.specs.{IsPrefix}
 use Rattle.host_block.proofs.Prefixes.{prefix_refl, prefix_trans, prefix_longer}
-use Rattle.host_io.specs.Causes.{HasCause, Rose}
-use Rattle.host_text.specs.Writing.{Adds, Stops, Puts, Writes}
+use Rattle.host_io.specs.{HasCause, Rose}
+use Rattle.host_text.specs.{AppendsText, Stops, PutsHeldText, Writes}
 
 -- the texts up to an element, and those from it on
 flat_map_next : {A : Type 0} (f : A → List ℕ) (xs : List A) (i : ℕ) (x d : A) → i < length xs → x ≡ get_or xs i d
@@ -33,7 +33,7 @@ module _ {S : Type 0} {tells : S → Bool} {faults : S → ℕ} {appended : S �
   -- ---- nothing, or a piece
 
   -- a piece is held
-  pub adds_held : (s : S) (h x : List ℕ) → Adds tells faults appended s h s (h ++ x) x
+  pub adds_held : (s : S) (h x : List ℕ) → AppendsText tells faults appended s h s (h ++ x) x
   adds_held s h x = record {
     told = refl;
     later = omega arith;
@@ -43,7 +43,7 @@ module _ {S : Type 0} {tells : S → Bool} {faults : S → ℕ} {appended : S �
 
   -- a sink took a front of a piece
   pub adds_front : (a b : S) (x : List ℕ) → tells b ≡ tells a → faults a ≤ faults b → (IsTrue (tells a) → appended b ≡ appended a ++ x)
-      → Adds tells faults appended a [] b [] x
+      → AppendsText tells faults appended a [] b [] x
   adds_front a b x told later all = record {
     told = told;
     later = later;
@@ -63,8 +63,8 @@ module _ {S : Type 0} {tells : S → Bool} {faults : S → ℕ} {appended : S �
 
   -- ---- one text after another
 
-  pub adds_more : {a b c : S} {ha hb hc x y : List ℕ} → Adds tells faults appended a ha b hb x → Adds tells faults appended b hb c hc y
-      → Adds tells faults appended a ha c hc (x ++ y)
+  pub adds_more : {a b c : S} {ha hb hc x y : List ℕ} → AppendsText tells faults appended a ha b hb x → AppendsText tells faults appended b hb c hc y
+      → AppendsText tells faults appended a ha c hc (x ++ y)
   adds_more {a} {b} {c} {ha} {hb} {hc} {x} {y} p q = record {
     told = q.told ∙ p.told;
     later = omega (arith, p.later, q.later);
@@ -73,7 +73,7 @@ module _ {S : Type 0} {tells : S → Bool} {faults : S → ℕ} {appended : S �
   }
 
   -- the sink failed later
-  pub stops_later : {a b c : S} {ha hb x y : List ℕ} → Adds tells faults appended a ha b hb x → Stops tells faults appended b hb c y
+  pub stops_later : {a b c : S} {ha hb x y : List ℕ} → AppendsText tells faults appended a ha b hb x → Stops tells faults appended b hb c y
       → Stops tells faults appended a ha c (x ++ y)
   stops_later {a} {b} {c} {ha} {hb} {x} {y} p q = record {
     told = q.told ∙ p.told;
@@ -91,19 +91,19 @@ module _ {S : Type 0} {tells : S → Bool} {faults : S → ℕ} {appended : S �
     front = λ t. let f = prefix_longer _ _ y (p.front t) in (f.0, f.1 ∙ append_assoc (appended a ++ h) x y);
   }
 
-  pub puts_after : {T E : Type 0} {a b : S} {ha hb x : List ℕ} (c : S) (hc y : List ℕ) (r : Result T E) → Adds tells faults appended a ha b hb x
-      → Puts tells faults appended b hb c hc y r → Puts tells faults appended a ha c hc (x ++ y) r
+  pub puts_after : {T E : Type 0} {a b : S} {ha hb x : List ℕ} (c : S) (hc y : List ℕ) (r : Result T E) → AppendsText tells faults appended a ha b hb x
+      → PutsHeldText tells faults appended b hb c hc y r → PutsHeldText tells faults appended a ha c hc (x ++ y) r
   puts_after c hc y r p h = MatchResult-weaker r h (λ _ q. adds_more p q) (λ _ q. stops_later p q)
 
   -- the exit of a `?`
   pub puts_exit : {T E : Type 0} {a b : S} {h x : List ℕ} (new_held : List ℕ) (r : Result T E) → IsErr r → Stops tells faults appended a h b x
-      → Puts tells faults appended a h b new_held x r
+      → PutsHeldText tells faults appended a h b new_held x r
   puts_exit {T} {E} {a} {b} {h} {x} new_held r e s =
-      MatchResult-from_err r (λ _. Adds tells faults appended a h b new_held x) (λ _. Stops tells faults appended a h b x) e (λ _. s)
+      MatchResult-from_err r (λ _. AppendsText tells faults appended a h b new_held x) (λ _. Stops tells faults appended a h b x) e (λ _. s)
 
   -- ---- what was held goes out first
 
-  pub adds_sent : {a b : S} {h : List ℕ} → Adds tells faults appended a [] b [] h → Adds tells faults appended a h b [] []
+  pub adds_sent : {a b : S} {h : List ℕ} → AppendsText tells faults appended a [] b [] h → AppendsText tells faults appended a h b [] []
   adds_sent {a} {b} {h} p = record {
     told = p.told;
     later = p.later;
@@ -120,33 +120,33 @@ module _ {S : Type 0} {tells : S → Bool} {faults : S → ℕ} {appended : S �
   }
 
   -- then a piece is held
-  pub adds_then_held : {a b : S} {ha hb : List ℕ} (x : List ℕ) → Adds tells faults appended a ha b hb [] → Adds tells faults appended a ha b (hb ++ x) x
+  pub adds_then_held : {a b : S} {ha hb : List ℕ} (x : List ℕ) → AppendsText tells faults appended a ha b hb [] → AppendsText tells faults appended a ha b (hb ++ x) x
   adds_then_held {a} {b} {ha} {hb} x p = adds_more p (adds_held b hb x)
 
   -- then a piece goes out past what is held, which is nothing
-  pub puts_past : {T E : Type 0} {a b : S} {ha hb : List ℕ} (c : S) (x : List ℕ) (r : Result T E) → Adds tells faults appended a ha b hb [] → hb ≡ []
-      → Puts tells faults appended b [] c [] x r → Puts tells faults appended a ha c hb x r
+  pub puts_past : {T E : Type 0} {a b : S} {ha hb : List ℕ} (c : S) (x : List ℕ) (r : Result T E) → AppendsText tells faults appended a ha b hb [] → hb ≡ []
+      → PutsHeldText tells faults appended b [] c [] x r → PutsHeldText tells faults appended a ha c hb x r
   puts_past {T} {E} {a} {b} {ha} {hb} c x r p e q =
-      puts_after c hb x r p (subst (λ (h : List ℕ). Puts tells faults appended b h c h x r) (sym e) q)
+      puts_after c hb x r p (subst (λ (h : List ℕ). PutsHeldText tells faults appended b h c h x r) (sym e) q)
 
   -- ---- the texts of the elements of a list, one after the other
 
   module _ {A : Type 0} (f : A → List ℕ) (xs : List A) (i : ℕ) (x d : A) where
-    pub adds_at : {a b c : S} {ha hb hc : List ℕ} → i < length xs → x ≡ get_or xs i d → Adds tells faults appended a ha b hb (flat_map f (take i xs))
-        → Adds tells faults appended b hb c hc (f x) → Adds tells faults appended a ha c hc (flat_map f (take (i + 1) xs))
+    pub adds_at : {a b c : S} {ha hb hc : List ℕ} → i < length xs → x ≡ get_or xs i d → AppendsText tells faults appended a ha b hb (flat_map f (take i xs))
+        → AppendsText tells faults appended b hb c hc (f x) → AppendsText tells faults appended a ha c hc (flat_map f (take (i + 1) xs))
     adds_at {a} {b} {c} {ha} {hb} {hc} lt e p q =
-        subst (λ (l : List ℕ). Adds tells faults appended a ha c hc l) (sym (flat_map_next f xs i x d lt e)) (adds_more p q)
+        subst (λ (l : List ℕ). AppendsText tells faults appended a ha c hc l) (sym (flat_map_next f xs i x d lt e)) (adds_more p q)
 
-    pub stops_at : {a b c : S} {ha hb : List ℕ} → i < length xs → x ≡ get_or xs i d → Adds tells faults appended a ha b hb (flat_map f (take i xs))
+    pub stops_at : {a b c : S} {ha hb : List ℕ} → i < length xs → x ≡ get_or xs i d → AppendsText tells faults appended a ha b hb (flat_map f (take i xs))
         → Stops tells faults appended b hb c (f x) → Stops tells faults appended a ha c (flat_map f xs)
     stops_at {a} {b} {c} {ha} {hb} lt e p q =
         subst (λ (l : List ℕ). Stops tells faults appended a ha c l) (flat_map_rest f xs i x d lt e) (stops_longer (flat_map f (drop (i + 1) xs)) (stops_later p q))
 
   -- the texts of all elements were put
   pub adds_all : {A : Type 0} (f : A → List ℕ) (xs : List A) (i : ℕ) {a b : S} {ha hb : List ℕ} → length xs ≤ i
-      → Adds tells faults appended a ha b hb (flat_map f (take i xs)) → Adds tells faults appended a ha b hb (flat_map f xs)
+      → AppendsText tells faults appended a ha b hb (flat_map f (take i xs)) → AppendsText tells faults appended a ha b hb (flat_map f xs)
   adds_all f xs i {a} {b} {ha} {hb} le p =
-      subst (λ (l : List ℕ). Adds tells faults appended a ha b hb l) (ap (λ l. flat_map f l) (take_all i xs le)) p
+      subst (λ (l : List ℕ). AppendsText tells faults appended a ha b hb l) (ap (λ l. flat_map f l) (take_all i xs le)) p
 
   -- a front of the text was appended
   pub front_of : {a b : S} {x : List ℕ} → Stops tells faults appended a [] b x → IsTrue (tells a)
@@ -161,7 +161,7 @@ module _ {S : Type 0} {tells : S → Bool} {faults : S → ℕ} {appended : S �
 
 -- nothing was held before, and nothing is held any more
 module _ {S : Type 0} (tells : S → Bool) (faults : S → ℕ) (appended : S → List ℕ) where
-  pub finished : {T E : Type 0} (a b : S) (hb x : List ℕ) (r : Result T E) → Puts tells faults appended a [] b hb x r → OnOk r (hb ≡ [])
+  pub finished : {T E : Type 0} (a b : S) (hb x : List ℕ) (r : Result T E) → PutsHeldText tells faults appended a [] b hb x r → OnOk r (hb ≡ [])
       → (tells b ≡ tells a) × Writes (tells a) (appended a) (appended b) x r × HasCause (faults a) (faults b) r
   finished a b hb x (Ok u) p e = (
     p.told,

@@ -2,7 +2,8 @@
 use Rattle.std.specs.Prelude.{ℕ, List, [], ◌∷◌, ◌++◌, flat_map, map, decimal}
 use Rattle.std.specs.Fmt.{signed_decimal}
 use Rattle.host_text.specs.declared.word.Word.{Word}
-use Rattle.host_text.specs.declared.word.Word.TheVariants.{Text, Number, Total, Signed, Byte, Hex, Block, Stored}
+use Rattle.host_text.specs.declared.word.Word.TheVariants.{Text, Number, Total, Signed, Byte, Hex}
+use Rattle.host_text.specs.declared.word.Word.TheVariants.{Block, Stored}
 use Rattle.host_text.specs.Words.{hex_byte, hex, block_word}
 
 abbrev pub printed : Word → List ℕ

@@ -1,5 +1,6 @@
 -- Words of printed lines.
-use Rattle.std.specs.Prelude.{ℕ, ◌/◌, ◌%◌, false, ◌==◌, List, [], ◌∷◌, ◌++◌, flat_map, get_or, codes, if◌then◌else◌}
+use Rattle.std.specs.Prelude.{ℕ, ◌/◌, ◌%◌, false, ◌==◌, List, [], ◌∷◌, ◌++◌, flat_map, get_or}
+use Rattle.std.specs.Prelude.{codes, if◌then◌else◌}
 use Rattle.std.specs.Fmt.{digit_glyph}
 use Rattle.std.specs.List.{list_all}
 
@@ -12,7 +13,9 @@ hex bytes = flat_map hex_byte bytes
 
 -- the bytes of a block: one byte where all are equal, else each
 abbrev pub block_word : List ℕ → List ℕ
-block_word bytes = let b = get_or bytes 0 0 in if list_all (λ c. c == b) bytes then codes "all " ++ hex_byte b else hex bytes
+block_word bytes =
+    let b = get_or bytes 0 0 in
+    if list_all (λ c. c == b) bytes then codes "all " ++ hex_byte b else hex bytes
 
 -- a line of words with a space between
 abbrev pub line : List (List ℕ) → List ℕ

@@ -1,6 +1,6 @@
 // Bytes that are held back until many can go into a sink at once.
 ghost use Rattle.std.specs.Prelude.{[]};
-ghost use Rattle.host_text.specs.Writing.{Puts};
+ghost use Rattle.host_text.specs.Writing.{PutsHeldText};
 
 use host_io::{Sink, SinkFailed};
 use std::marker::Model;
@@ -62,7 +62,8 @@ impl Held {
 
     /// Adds a piece, and puts what no longer fits into the sink.
     pub fn put<K: Sink>(&mut self, piece: &[u8], out: &mut K) -> Result<(), SinkFailed>
-        ensures { Puts K.tells K.faults K.appended out.old self.old out.new self.new piece.now result }
+        ensures { PutsHeldText K.tells K.faults K.appended out.old self.old out.new self.new
+            piece.now result }
     {
         if self.fits(piece.len()) {
             self.push(piece);
@@ -74,7 +75,8 @@ impl Held {
 
     // Puts what is held, and then holds the piece, or puts it too where it never fits.
     fn put_past<K: Sink>(&mut self, piece: &[u8], out: &mut K) -> Result<(), SinkFailed>
-        ensures { Puts K.tells K.faults K.appended out.old self.old out.new self.new piece.now result }
+        ensures { PutsHeldText K.tells K.faults K.appended out.old self.old out.new self.new
+            piece.now result }
     {
         self.send(out)?;
         if self.fits(piece.len()) {
@@ -87,7 +89,8 @@ impl Held {
 
     /// Puts all that is held into the sink.
     pub fn send<K: Sink>(&mut self, out: &mut K) -> Result<(), SinkFailed>
-        ensures text { Puts K.tells K.faults K.appended out.old self.old out.new self.new [] result }
+        ensures text { PutsHeldText K.tells K.faults K.appended out.old self.old out.new self.new []
+            result }
         ensures empty { OnOk result (self.new ≡ []) }
     {
         put_all(self.as_slice(), out)?;
@@ -98,7 +101,7 @@ impl Held {
 
 // Puts a whole piece into a sink that may take less at a time.
 fn put_all<K: Sink>(piece: &[u8], out: &mut K) -> Result<(), SinkFailed>
-    ensures { Puts K.tells K.faults K.appended out.old [] out.new [] piece.now result }
+    ensures { PutsHeldText K.tells K.faults K.appended out.old [] out.new [] piece.now result }
 {
     let mut count = 0;
     while count < piece.len() {

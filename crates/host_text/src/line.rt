@@ -4,7 +4,7 @@ ghost use Rattle.std.specs.Fmt.{digit_glyph};
 ghost use Rattle.std.specs.List.{list_all};
 ghost use Rattle.host_text.specs.Printed.{printed, all_printed, after_space, spaced};
 ghost use Rattle.host_text.specs.Words.{hex_byte, hex, block_word, line};
-ghost use Rattle.host_text.specs.Writing.{Puts};
+ghost use Rattle.host_text.specs.Writing.{PutsHeldText};
 
 use crate::held::Held;
 use crate::word::Word;
@@ -18,7 +18,8 @@ pub fn put_line<K: Sink>(
     held: &mut Held,
     out: &mut K,
 ) -> Result<(), SinkFailed>
-    ensures { Puts K.tells K.faults K.appended out.old held.old out.new held.new (indent.now ++ line (all_printed words.now)) result }
+    ensures { PutsHeldText K.tells K.faults K.appended out.old held.old out.new held.new
+        (indent.now ++ line (all_printed words.now)) result }
 {
     held.put(indent, out)?;
     put_words(words, held, out)?;
@@ -27,7 +28,8 @@ pub fn put_line<K: Sink>(
 
 // Puts words with a space between them.
 fn put_words<K: Sink>(words: &[Word<'_>], held: &mut Held, out: &mut K) -> Result<(), SinkFailed>
-    ensures { Puts K.tells K.faults K.appended out.old held.old out.new held.new (spaced words.now) result }
+    ensures { PutsHeldText K.tells K.faults K.appended out.old held.old out.new held.new
+        (spaced words.now) result }
 {
     match words.split_first() {
         Some((first, rest)) => {
@@ -40,7 +42,8 @@ fn put_words<K: Sink>(words: &[Word<'_>], held: &mut Held, out: &mut K) -> Resul
 
 // Puts words with a space before each.
 fn put_rest<K: Sink>(words: &[Word<'_>], held: &mut Held, out: &mut K) -> Result<(), SinkFailed>
-    ensures { Puts K.tells K.faults K.appended out.old held.old out.new held.new (flat_map after_space words.now) result }
+    ensures { PutsHeldText K.tells K.faults K.appended out.old held.old out.new held.new
+        (flat_map after_space words.now) result }
 {
     for word in words {
         put_next(word, held, out)?;
@@ -50,14 +53,16 @@ fn put_rest<K: Sink>(words: &[Word<'_>], held: &mut Held, out: &mut K) -> Result
 
 // Puts a word with a space before it.
 fn put_next<K: Sink>(word: &Word<'_>, held: &mut Held, out: &mut K) -> Result<(), SinkFailed>
-    ensures { Puts K.tells K.faults K.appended out.old held.old out.new held.new (after_space word.now) result }
+    ensures { PutsHeldText K.tells K.faults K.appended out.old held.old out.new held.new
+        (after_space word.now) result }
 {
     held.put(b" ", out)?;
     put_word(word, held, out)
 }
 
 fn put_word<K: Sink>(word: &Word<'_>, held: &mut Held, out: &mut K) -> Result<(), SinkFailed>
-    ensures { Puts K.tells K.faults K.appended out.old held.old out.new held.new (printed word.now) result }
+    ensures { PutsHeldText K.tells K.faults K.appended out.old held.old out.new held.new
+        (printed word.now) result }
 {
     match *word {
         Word::Text(text) => held.put(text, out),
@@ -72,14 +77,16 @@ fn put_word<K: Sink>(word: &Word<'_>, held: &mut Held, out: &mut K) -> Result<()
 }
 
 fn put_number<K: Sink, N: Integer>(n: N, held: &mut Held, out: &mut K) -> Result<(), SinkFailed>
-    ensures { Puts K.tells K.faults K.appended out.old held.old out.new held.new (N.text n) result }
+    ensures { PutsHeldText K.tells K.faults K.appended out.old held.old out.new held.new (N.text n)
+        result }
 {
     let mut buffer = Buffer::new();
     held.put(buffer.format(n).as_bytes(), out)
 }
 
 fn put_block<K: Sink>(bytes: &[u8], held: &mut Held, out: &mut K) -> Result<(), SinkFailed>
-    ensures { Puts K.tells K.faults K.appended out.old held.old out.new held.new (block_word bytes.now) result }
+    ensures { PutsHeldText K.tells K.faults K.appended out.old held.old out.new held.new
+        (block_word bytes.now) result }
 {
     let first = first_byte(bytes);
     if are_all(bytes, first) {
@@ -100,7 +107,8 @@ fn first_byte(bytes: &[u8]) -> u8
     }
 }
 
-// Whether all of these are this byte. To look at each is faster than to stop at the first other one.
+// Whether all of these are this byte. To look at each is faster than to stop at the first other
+// one.
 fn are_all(bytes: &[u8], byte: u8) -> bool
     ensures { result ≡ list_all (λ b. b == byte) bytes.now }
 {
@@ -112,7 +120,8 @@ fn are_all(bytes: &[u8], byte: u8) -> bool
 }
 
 fn put_hex<K: Sink>(bytes: &[u8], held: &mut Held, out: &mut K) -> Result<(), SinkFailed>
-    ensures { Puts K.tells K.faults K.appended out.old held.old out.new held.new (hex bytes.now) result }
+    ensures { PutsHeldText K.tells K.faults K.appended out.old held.old out.new held.new
+        (hex bytes.now) result }
 {
     for byte in bytes {
         put_byte(*byte, held, out)?;
@@ -121,7 +130,8 @@ fn put_hex<K: Sink>(bytes: &[u8], held: &mut Held, out: &mut K) -> Result<(), Si
 }
 
 fn put_byte<K: Sink>(byte: u8, held: &mut Held, out: &mut K) -> Result<(), SinkFailed>
-    ensures { Puts K.tells K.faults K.appended out.old held.old out.new held.new (hex_byte byte) result }
+    ensures { PutsHeldText K.tells K.faults K.appended out.old held.old out.new held.new
+        (hex_byte byte) result }
 {
     held.put(&[digit(byte / 16), digit(byte % 16)], out)
 }

@@ -1,5 +1,3 @@
-pub mod Totals
-pub mod Histories
 pub mod Stepping
 pub mod Seating
 pub mod SeatLists

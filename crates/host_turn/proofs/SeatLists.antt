@@ -1,25 +1,19 @@
 -- Lists of seats.
-use Rattle.std.proofs.Common.{◌≡◌, ◌⊎◌, ℕ, zero, suc, ◌+◌, ◌-◌, ◌<◌, ◌≢◌, List, [], ◌∷◌, ◌++◌, length, map, sym, refl, ap, ap₂, subst, ◌∙◌, inl, inr, ⊎_elim, length-append, arith}
+use Rattle.std.proofs.Common.{◌≡◌, ◌⊎◌, ℕ, suc, ◌+◌, ◌-◌, ◌<◌, ◌≢◌, List, [], ◌∷◌, ◌++◌, length, map, sym, refl, ap, ap₂, subst, ◌∙◌, inl, inr, ⊎_elim, length-append, arith}
 use Rattle.std.proofs.lemmas.List.{map-append, length-map}
 use Rattle.std.specs.Prelude.{Option, Some, None}
 use Rattle.std.specs.Option.{unwrap_or, IsSome, option_to_list}
 use Rattle.std.specs.List.{slice_get, All}
 use Rattle.std.proofs.lemmas.List.Elements.{All-nil, All-cons, All-head, All-tail}
-use Rattle.host_turn.specs.declared.rule.Opening.{Opening}
-use Rattle.host_turn.specs.declared.book.Book.{Book}
-use Rattle.host_turn.specs.declared.seat.BookSeat.{BookSeat}
-use Rattle.host_turn.specs.declared.view.View.{View}
-use Rattle.host_turn.specs.declared.view.Stage.{Stage}
-use Rattle.host_turn.specs.History.{entries_of, Continues}
-use Rattle.host_turn.specs.Views.{HasNumber, AnyHasSeen, view_after_making, new_seat_view, gathered_view, is_at_rest, members_at, members_of}
-use Rattle.host_turn.specs.Rule.{AreMembers, OneHistory}
-use Rattle.host_turn.specs.Seats.{IsNewSeat, AreNewSeats, AreSeatsAt, IsOutside, seat_book, number, seen_by, IsSeenBySome, member_of, IsMaker, IsSeatOutside, HasGathered, book_id, opening_of, seat_count}
+use Rattle.host_turn.specs.{Opening, Book, BookSeat, View, Stage, view_after_making, new_seat_view, gathered_view, is_at_rest, members_at, members_of, AreMembers, OneHistory, IsNewSeat, AreNewSeats, AreSeatsAt, IsOutside, seat_book, number, seen_by, IsSeenBySome, member_of, IsMaker, IsSeatOutside, HasGathered, book_id, opening_of, seat_count}
+use Rattle.host_log.specs.{entries_of, Continues, HasNumber, AnyHasSeen, Holder, AllHaveSeen}
 use Rattle.atomic_table.specs.Seated.{TableId}
 use mathlib.Core.Option.{some, some-injective}
 use lib.ListN.{get_elem?}
 use Rattle.atomic_table.specs.Table.{Final, Seen}
 use Rattle.atomic_table.specs.declared.shared.Seat.{Seat}
 use Rattle.host_turn.proofs.Seating.{ends}
+use Rattle.host_log.proofs.Places.{get_snoc, get_last, stands_append}
 
 module _ {A : Type 0} where
   pub some_same : (a b : A) → Some a ≡ Some b → a ≡ b
@@ -35,41 +29,25 @@ module _ {A : Type 0} where
   none_some : (b : A) → None ≡ Some b → ⊥
   none_some b e = let g : ◌≡◌ {A = ℕ} (count None) (count (Some b)) = ap count e in let h : ◌≡◌ {A = ℕ} 0 1 = g in omega arith
 
-  slice_get_snoc : (xs : List A) (a b : A) (j : ℕ) → slice_get (xs ++ a ∷ []) j ≡ Some b → (slice_get xs j ≡ Some b) ⊎ ((j ≡ length xs) × (a ≡ b))
-  slice_get_snoc [] a b zero e = inr (refl, some_same a b e)
-  slice_get_snoc [] a b (suc j) e = absurd (none_some b e)
-  slice_get_snoc (x ∷ xs) a b zero e = inl e
-  slice_get_snoc (x ∷ xs) a b (suc j) e = ⊎_elim (λ t. inl t) (λ t. inr (ap suc t.0, t.1)) (slice_get_snoc xs a b j e)
-
-module _ {A : Type 0} where
-  slice_get_last : (xs : List A) (a : A) → slice_get (xs ++ a ∷ []) (length xs) ≡ Some a
-  slice_get_last [] a = refl
-  slice_get_last (x ∷ xs) a = slice_get_last xs a
-
-  slice_get_longer : (xs ys : List A) (j : ℕ) (a : A) → slice_get xs j ≡ Some a → slice_get (xs ++ ys) j ≡ Some a
-  slice_get_longer [] ys j a e = absurd (none_some a e)
-  slice_get_longer (x ∷ xs) ys zero a e = e
-  slice_get_longer (x ∷ xs) ys (suc j) a e = slice_get_longer xs ys j a e
-
 module _ {S E F : Type 0} (story : S → List E) (fixed : S → F) (b : TableId) (x : S) where
   -- a seat that is popped, and those that are left
   pub seats_pop : (all qs : List (BookSeat S E F)) (o : Option (BookSeat S E F)) (q : BookSeat S E F) → all ≡ qs ++ option_to_list o → o ≡ Some q → AreNewSeats story fixed b x all
       → AreNewSeats story fixed b x qs × IsNewSeat story fixed b x (length qs) q × (length all ≡ length qs + 1)
   seats_pop all qs o q items is new = let whole = subst (AreNewSeats story fixed b x) (items ∙ ap (λ z. qs ++ option_to_list z) is) new in
-      ((λ n p e. whole n p (slice_get_longer qs (q ∷ []) n p e)), whole (length qs) q (slice_get_last qs q), ap length (items ∙ ap (λ z. qs ++ option_to_list z) is) ∙ length-append qs (q ∷ []))
+      ((λ n p e. whole n p (stands_append qs (q ∷ []) n p e)), whole (length qs) q (get_last qs q), ap length (items ∙ ap (λ z. qs ++ option_to_list z) is) ∙ length-append qs (q ∷ []))
 
   pub one_seat_more : (n : ℕ) (qs : List (BookSeat S E F)) (q : BookSeat S E F) → length qs ≡ n → AreNewSeats story fixed b x qs → IsNewSeat story fixed b x n q → AreNewSeats story fixed b x (qs ++ q ∷ [])
-  one_seat_more n qs q len all new j p e = ⊎_elim (λ t. all j p t) (λ t. subst (λ (z : ℕ × BookSeat S E F). IsNewSeat story fixed b x z.0 z.1) (λ i. (sym (t.0 ∙ len) i, t.1 i)) new) (slice_get_snoc qs q p j e)
+  one_seat_more n qs q len all new j p e = ⊎_elim (λ t. all j p t) (λ t. subst (λ (z : ℕ × BookSeat S E F). IsNewSeat story fixed b x z.0 z.1) (λ i. (sym (t.0 ∙ len) i, t.1 i)) new) (get_snoc qs q p j e)
 
 -- one more of the things that have a book each, with the seat at its book
 pub are_seats_with_more : {X S E F : Type 0} (id_of : X → TableId) (n : ℕ) (xs : List X) (x : X) (qs : List (BookSeat S E F)) (q : BookSeat S E F) → AreSeatsAt (map id_of xs) n qs → length qs ≡ length xs
     → seat_book q ≡ id_of x → IsOutside q → number q ≡ n → AreSeatsAt (map id_of (xs ++ x ∷ [])) n (qs ++ q ∷ [])
 are_seats_with_more id_of n xs x qs q are len book out is j z e = ⊎_elim
-    (λ t. let old = are j z t in (ap (λ l. slice_get l j) (map-append id_of xs (x ∷ [])) ∙ slice_get_longer (map id_of xs) (id_of x ∷ []) j (seat_book z) old.0, old.1, old.2))
+    (λ t. let old = are j z t in (ap (λ l. slice_get l j) (map-append id_of xs (x ∷ [])) ∙ stands_append (map id_of xs) (id_of x ∷ []) j (seat_book z) old.0, old.1, old.2))
     (λ t. let place : j ≡ length (map id_of xs) = t.0 ∙ (len ∙ sym (length-map xs id_of)) in
-    let found : slice_get (map id_of (xs ++ x ∷ [])) j ≡ Some (id_of x) = ap (λ l. slice_get l j) (map-append id_of xs (x ∷ [])) ∙ (ap (slice_get (map id_of xs ++ id_of x ∷ [])) place ∙ slice_get_last (map id_of xs) (id_of x)) in
+    let found : slice_get (map id_of (xs ++ x ∷ [])) j ≡ Some (id_of x) = ap (λ l. slice_get l j) (map-append id_of xs (x ∷ [])) ∙ (ap (slice_get (map id_of xs ++ id_of x ∷ [])) place ∙ get_last (map id_of xs) (id_of x)) in
     subst (λ (y : BookSeat _ _ _). (slice_get (map id_of (xs ++ x ∷ [])) j ≡ Some (seat_book y)) × IsOutside y × (number y ≡ n)) t.1 (found ∙ ap Some (sym book), out, is))
-    (slice_get_snoc qs q z j e)
+    (get_snoc qs q z j e)
 
 module _ {S E F : Type 0} (story : S → List E) (fixed : S → F) (b : Book S E F) where
   -- the maker makes a seat
@@ -95,7 +73,7 @@ module _ {S E F : Type 0} (story : S → List E) (fixed : S → F) (b : Book S E
 
 module _ {S E F : Type 0} (b : Book S E F) where
   -- a seat takes in another
-  pub one_more_gathered : (n : ℕ) (ms : List (ℕ × List E)) (base new q : BookSeat S E F) → HasGathered b base n ms → IsSeatOutside b q → new.seat.table_id ≡ base.seat.table_id
+  pub one_more_gathered : (n : ℕ) (ms : List (Holder E)) (base new q : BookSeat S E F) → HasGathered b base n ms → IsSeatOutside b q → new.seat.table_id ≡ base.seat.table_id
       → new.seat.me ≡ (gathered_view base.seat.me.0 q.seat.me.0, base.seat.me.1) → HasGathered b new (n + 1) (member_of q ∷ ms)
   one_more_gathered n ms base new q is out t m = (
     t ∙ is.0,
@@ -107,13 +85,13 @@ module _ {S E F : Type 0} (b : Book S E F) where
 
 module _ {S E F : Type 0} (story : S → List E) (maker : E → ℕ) (fixed : S → F) (k : Opening S) where
   -- what the members know, the seats know
-  pub whole_of_members : (made : ℕ) (xs : List E) (qs : List (BookSeat S E F)) → AreMembers maker made xs (map member_of qs) → All (λ q. Continues maker (number q) (seen_by q) xs) qs
-  whole_of_members made xs [] h = All-nil (λ q. Continues maker (number q) (seen_by q) xs)
-  whole_of_members made xs (q ∷ qs) h = All-cons (λ q. Continues maker (number q) (seen_by q) xs) q qs (h.0.begins, h.0.all_own) (whole_of_members made xs qs h.1)
+  pub whole_of_members : (xs : List E) (qs : List (BookSeat S E F)) → AllHaveSeen maker xs (map member_of qs) → All (λ q. Continues maker (number q) (seen_by q) xs) qs
+  whole_of_members xs [] h = All-nil (λ q. Continues maker (number q) (seen_by q) xs)
+  whole_of_members xs (q ∷ qs) h = All-cons (λ q. Continues maker (number q) (seen_by q) xs) q qs h.0 (whole_of_members xs qs h.1)
 
-  pub numbers_below : (made : ℕ) (xs : List E) (qs : List (BookSeat S E F)) → AreMembers maker made xs (map member_of qs) → All (λ q. number q < made) qs
-  numbers_below made xs [] h = All-nil (λ q. number q < made)
-  numbers_below made xs (q ∷ qs) h = All-cons (λ q. number q < made) q qs h.0.numbered (numbers_below made xs qs h.1)
+  pub numbers_below : (made : ℕ) (qs : List (BookSeat S E F)) → ((n : ℕ) → HasNumber (map member_of qs) n → n < made) → All (λ q. number q < made) qs
+  numbers_below made [] h = All-nil (λ q. number q < made)
+  numbers_below made (q ∷ qs) h = All-cons (λ q. number q < made) q qs (h (number q) (inl refl)) (numbers_below made qs (λ n p. h n (inr p)))
 
 not_among : {S E F : Type 0} (n : ℕ) (qs : List (BookSeat S E F)) → All (λ q. number q ≢ n) qs → HasNumber (map member_of qs) n → ⊥
 not_among n [] free p = absurd p
@@ -133,9 +111,9 @@ module _ {S E F : Type 0} (story : S → List E) (maker : E → ℕ) (fixed : S 
       let names = has.4 ∙ (sym (map-append member_of qs (q ∷ [])) ∙ ap (map member_of) (sym is)) in (
         x,
         some-injective slot (Some x) (sym at ∙ e.1),
-        whole_of_members story maker fixed k k.seats (story x) all (subst (λ (z : List (ℕ × List E)). AreMembers maker k.seats (story x) z) names e.3),
-        (λ n free. e.4 n (λ p. not_among n all free (subst (λ (z : List (ℕ × List E)). HasNumber z n) names p))),
+        whole_of_members story maker fixed k (story x) all (subst (λ (z : List (Holder E)). AreMembers maker k.seats (story x) z) names e.3).0,
+        (λ n free. e.4 n (λ p. not_among n all free (subst (λ (z : List (Holder E)). HasNumber z n) names p))),
         e.2,
-        numbers_below story maker fixed k k.seats (story x) all (subst (λ (z : List (ℕ × List E)). AreMembers maker k.seats (story x) z) names e.3),
-        ⊎_elim (λ t. inl t) (λ t. inr (some_seat_saw all (story x) (subst (λ (z : List (ℕ × List E)). AnyHasSeen z (story x)) names t))) e.5,
+        numbers_below story maker fixed k k.seats all (subst (λ (z : List (Holder E)). AreMembers maker k.seats (story x) z) names e.3).1,
+        ⊎_elim (λ t. inl t) (λ t. inr (some_seat_saw all (story x) (subst (λ (z : List (Holder E)). AnyHasSeen z (story x)) names t))) e.5,
       )

@@ -1,5 +1,5 @@
 -- How the rule begins, how seats are made and joined, and what it tells at the end.
-use Rattle.std.proofs.Common.{◌≡◌, ◌≢◌, ◌⊎◌, ℕ, zero, suc, ◌+◌, ◌^◌, ◌<◌, ◌≤◌, List, [], ◌∷◌, ◌++◌, length, length-append, set, sym, refl, ap, ap₂, subst, ◌∙◌, inl, inr, ⊎_elim, arith}
+use Rattle.std.proofs.Common.{◌≡◌, ◌≢◌, ◌⊎◌, ℕ, ◌+◌, ◌^◌, ◌<◌, ◌≤◌, List, [], ◌∷◌, ◌++◌, length, length-append, set, sym, refl, ap, ap₂, subst, ◌∙◌, inl, inr, ⊎_elim, arith}
 use Rattle.std.specs.Prelude.{Option, Some}
 use mathlib.Core.Option.{none, some, some-injective, some-ne-none}
 use mathlib.Core.Option as maybe
@@ -8,58 +8,13 @@ use native.Mathlib.Decide.{ℕ_discrete}
 use lib.ListN.{get_elem?}
 use Rattle.atomic_table.specs.Table.{State, Splits, Joins, opening, Final, Seen}
 use Rattle.atomic_table.proofs.Lists.{at_set, set_else}
-use Rattle.host_turn.specs.declared.rule.Opening.{Opening}
-use Rattle.host_turn.specs.declared.view.View.{View}
-use Rattle.host_turn.specs.declared.view.Stage.{Stage}
-use Rattle.host_turn.specs.declared.view.Stage.TheVariants.{Maker, Outside, Waiting, Inside, Note, Closing, Spent}
-use Rattle.host_turn.specs.History.{entries_of}
-use Rattle.host_turn.specs.Views.{total, has_ticket, is_at_rest, HasNumber, AnyHasSeen, tickets_of, share_of, note_view, told_view, view_after_making, new_seat_view, gathered_view, spent_view, members_at, members_of}
-use Rattle.host_turn.specs.Rule.{IsMember, AreMembers, Owns, Knows, Apart, AtHome, Away, OneHistory, first_view}
-use Rattle.host_turn.proofs.Totals.{total_set, total_snoc, total_two}
-use Rattle.host_turn.proofs.Histories.{prefix_refl, prefix_nil}
+use Rattle.host_turn.specs.{Opening, View, Stage, Maker, Outside, Waiting, Inside, Note, Closing, Spent, has_ticket, is_at_rest, tickets_of, share_of, note_view, told_view, view_after_making, new_seat_view, gathered_view, spent_view, members_at, members_of, IsMember, AreMembers, Owns, Knows, Apart, AtHome, Away, OneHistory, first_view}
+use Rattle.host_log.specs.{entries_of, HasNumber, AnyHasSeen, Holder, total}
+use Rattle.host_log.proofs.Totals.{total_set, total_snoc, total_two}
+use Rattle.host_log.proofs.Histories.{prefix_refl, prefix_nil}
 use Rattle.host_turn.proofs.Stepping as m
-use Rattle.host_turn.proofs.Stepping.{here}
-
-module _ {A : Type 0} where
-  -- with its place
-  at_snoc : (xs : List A) (a b : A) (j : ℕ) → get_elem? (xs ++ a ∷ []) j ≡ some b → (get_elem? xs j ≡ some b) ⊎ ((j ≡ length xs) × (a ≡ b))
-  at_snoc [] a b zero e = inr (refl, some-injective a b e)
-  at_snoc [] a b (suc j) e = absurd (some-ne-none b (sym e))
-  at_snoc (x ∷ xs) a b zero e = inl e
-  at_snoc (x ∷ xs) a b (suc j) e = ⊎_elim (λ t. inl t) (λ t. inr (ap suc t.0, t.1)) (at_snoc xs a b j e)
-
-  longer_at : (xs ys : List A) (j : ℕ) (a : A) → get_elem? xs j ≡ some a → get_elem? (xs ++ ys) j ≡ some a
-  longer_at [] ys j a e = absurd (some-ne-none a (sym e))
-  longer_at (x ∷ xs) ys zero a e = e
-  longer_at (x ∷ xs) ys (suc j) a e = longer_at xs ys j a e
-
-has_number_append : {E : Type 0} (xs ys : List (ℕ × List E)) (n : ℕ) → HasNumber (xs ++ ys) n → HasNumber xs n ⊎ HasNumber ys n
-has_number_append [] ys n p = inr p
-has_number_append (x ∷ xs) ys n p = ⊎_elim (λ t. inl (inl t)) (λ t. ⊎_elim (λ q. inl (inr q)) (λ q. inr q) (has_number_append xs ys n t)) p
-
-has_number_left : {E : Type 0} (xs ys : List (ℕ × List E)) (n : ℕ) → HasNumber xs n → HasNumber (xs ++ ys) n
-has_number_left [] ys n p = absurd p
-has_number_left (x ∷ xs) ys n p = ⊎_elim (λ t. inl t) (λ t. inr (has_number_left xs ys n t)) p
-
-has_number_right : {E : Type 0} (xs ys : List (ℕ × List E)) (n : ℕ) → HasNumber ys n → HasNumber (xs ++ ys) n
-has_number_right [] ys n p = p
-has_number_right (x ∷ xs) ys n p = inr (has_number_right xs ys n p)
-
-has_number_some : {E : Type 0} (xs : List (ℕ × List E)) (n : ℕ) → HasNumber xs n → 0 < length xs
-has_number_some [] n p = absurd p
-has_number_some (x ∷ xs) n p = omega arith
-
-any_seen_left : {E : Type 0} (xs ys : List (ℕ × List E)) (l : List E) → AnyHasSeen xs l → AnyHasSeen (xs ++ ys) l
-any_seen_left [] ys l p = absurd p
-any_seen_left (x ∷ xs) ys l p = ⊎_elim (λ t. inl t) (λ t. inr (any_seen_left xs ys l t)) p
-
-any_seen_right : {E : Type 0} (xs ys : List (ℕ × List E)) (l : List E) → AnyHasSeen ys l → AnyHasSeen (xs ++ ys) l
-any_seen_right [] ys l p = p
-any_seen_right (x ∷ xs) ys l p = inr (any_seen_right xs ys l p)
-
-any_seen_some : {E : Type 0} (xs : List (ℕ × List E)) (l : List E) → AnyHasSeen xs l → 0 < length xs
-any_seen_some [] l p = absurd p
-any_seen_some (x ∷ xs) l p = omega arith
+use Rattle.host_log.proofs.Places.{here, at_snoc, at_longer}
+use Rattle.host_log.proofs.Seeing.{join, number_either, number_left, number_right, number_some, seen_left, seen_right, seen_some}
 
 module _ {S E F : Type 0} (story : S → List E) (maker : E → ℕ) (fixed : S → F) (k : Opening S) where
   abbrev V : Type 0
@@ -115,7 +70,7 @@ module _ {S E F : Type 0} (story : S → List E) (maker : E → ℕ) (fixed : S 
         has_fixed = home.has_fixed;
         nobody = λ j w e. ⊎_elim (λ z. home.nobody j w z) (λ z. m.out story maker fixed k w.stage (ap (λ (y : V). m.is_inside story maker fixed k y.stage) (sym z.1) ∙ out)) (at_snoc vs u w j e);
       })
-      (λ away. inr record { holder = away.holder; view = away.view; found = longer_at vs (u ∷ []) away.holder away.view away.found; has_turn = away.has_turn; slot_out = away.slot_out })
+      (λ away. inr record { holder = away.holder; view = away.view; found = at_longer vs (u ∷ []) away.holder away.view away.found; has_turn = away.has_turn; slot_out = away.slot_out })
       c
 
   -- one view is cut in two
@@ -145,31 +100,30 @@ module _ {S E F : Type 0} (story : S → List E) (maker : E → ℕ) (fixed : S 
         shares = (let e : total share_of (vs ++ right ∷ []) ≡ total share_of s.views = omega arith in e) ∙ r.shares;
         few = r.few;
         within = within;
-        others = λ i none. r.others i (m.free_before story maker fixed k s.views id v left i at (names i) (λ j u e. none j u (longer_at vs (right ∷ []) j u e)));
+        others = λ i none. r.others i (m.free_before story maker fixed k s.views id v left i at (names i) (λ j u e. none j u (at_longer vs (right ∷ []) j u e)));
         each = λ j u e. ⊎_elim (λ t. each j u t) (λ t. subst (λ (z : ℕ × V). Kn r.next r.serving made' r.last z.0 z.1 z.1.stage) (λ i. (sym t.0 i, t.1 i)) new) (at_snoc vs right u j e);
         apart = λ i j x y ex ey. ⊎_elim
             (λ t. ⊎_elim (λ t'. near i j x y t t') (λ t'. m.apart_sym story maker fixed k j y i x (subst (λ (z : ℕ × V). Ap z.0 z.1 i x) (λ l. (sym t'.0 l, t'.1 l)) (far i x t))) (at_snoc vs right y j ey))
             (λ t. ⊎_elim (λ t'. subst (λ (z : ℕ × V). Ap z.0 z.1 j y) (λ l. (sym t.0 l, t.1 l)) (far j y t')) (λ t'. let e : i ≡ j = t.0 ∙ sym t'.0 in ((λ _ _ _. e), λ _ _ _. e)) (at_snoc vs right y j ey))
             (at_snoc vs right x i ex);
-        witnessed = ⊎_elim (λ t. inl t) (λ t. inr (t.0, t.1, longer_at vs (right ∷ []) t.0 t.1 t.2, t.3)) (m.witness_stays story maker fixed k s.views id v left r.last at still r.witnessed);
+        witnessed = ⊎_elim (λ t. inl t) (λ t. inr (t.0, t.1, at_longer vs (right ∷ []) t.0 t.1 t.2, t.3)) (m.witness_stays story maker fixed k s.views id v left r.last at still r.witnessed);
         slot = slot_longer s.words s.homes vs right r.last c (m.slot_stays story maker fixed k s id v left s.words r.last at a b r.slot);
       }
 
   pub notes : (id : ℕ) (v : V) → v.stage ≡ Outside → Splits K id v v (note_view v)
   notes id v is s r at = let own = m.knows story maker fixed k s r id v Outside at is in let out = ap (m.is_inside story maker fixed k) is in
-      cut s r id v v (note_view v) r.made at (omega arith) r.within (omega arith) refl refl out out refl (r.each id v at) record { begins = own.member.begins; has_fixed = own.has_fixed; stands_for_none = refl } (λ j u _ e. r.each j u e) (λ j u _ e. r.apart id j v u at e)
+      cut s r id v v (note_view v) r.made at (omega arith) r.within (omega arith) refl refl out out refl (r.each id v at) record { begins = own.member.0.0; has_fixed = own.has_fixed; stands_for_none = refl } (λ j u _ e. r.each j u e) (λ j u _ e. r.apart id j v u at e)
       (λ j u e. ((λ n none _. absurd none), λ z _ _. absurd (omega arith))) (λ e. e) (λ n p. p)
 
   -- members stay so when more seats were made
-  member_widen : (made more : ℕ) (last : List E) (x : ℕ × List E) → made ≤ more → IsMember maker made last x → IsMember maker more last x
-  member_widen made more last x le h = let lt = h.numbered in record { begins = h.begins; all_own = h.all_own; numbered = omega arith }
+  members_widen : (made more : ℕ) (last : List E) (ms : List (Holder E)) → made ≤ more → AreMembers maker made last ms → AreMembers maker more last ms
+  members_widen made more last ms le h = (h.0, λ n p. let lt = h.1 n p in omega arith)
 
-  members_widen : (made more : ℕ) (last : List E) (ms : List (ℕ × List E)) → made ≤ more → AreMembers maker made last ms → AreMembers maker more last ms
-  members_widen made more last [] le h = tt
-  members_widen made more last (x ∷ xs) le h = (member_widen made more last x le h.0, members_widen made more last xs le h.1)
+  one_member : (made : ℕ) (last : List E) (x : Holder E) → IsMember maker made last x → AreMembers maker made last (x ∷ [])
+  one_member made last x h = ((h.0, tt), λ n p. ⊎_elim (λ e. let lt = h.1 in omega arith) (λ none. absurd none) p)
 
   owns_more : (made : ℕ) (last : List E) (u : V) → Owns maker made last fixed_value u → Owns maker (made + 1) last fixed_value u
-  owns_more made last u h = record { member = member_widen made (made + 1) last (u.number, u.seen) (omega arith) h.member; told_begins = h.told_begins; has_fixed = h.has_fixed; stands_for_one = h.stands_for_one; told_has_fixed = h.told_has_fixed }
+  owns_more made last u h = let lt = h.member.1 in record { member = (h.member.0, omega arith); told_begins = h.told_begins; has_fixed = h.has_fixed; stands_for_one = h.stands_for_one; told_has_fixed = h.told_has_fixed }
 
   one_more : (next serving made : ℕ) (last : List E) (j : ℕ) (u : V) (a : Stage) → j ≢ 0 → Kn next serving made last j u a → Kn next serving (made + 1) last j u a
   one_more next serving made last j u Maker ne h = absurd (ne h.is_first)
@@ -180,17 +134,13 @@ module _ {S E F : Type 0} (story : S → List E) (maker : E → ℕ) (fixed : S 
   one_more next serving made last j u Closing ne h = record { has_fixed = h.has_fixed; members = members_widen made (made + 1) last u.members (omega arith) h.members; counted = h.counted }
   one_more next serving made last j u Spent ne h = h
 
-  all_below : (made : ℕ) (last : List E) (ms : List (ℕ × List E)) (n : ℕ) → AreMembers maker made last ms → HasNumber ms n → n < made
-  all_below made last [] n h p = absurd p
-  all_below made last (x ∷ xs) n h p = ⊎_elim (λ e. let lt = h.0.numbered in omega arith) (λ q. all_below made last xs n h.1 q) p
-
   has_below : (next serving made : ℕ) (last : List E) (j : ℕ) (u : V) (a : Stage) (n : ℕ) → Kn next serving made last j u a → HasNumber (members_at a u) n → n < made
   has_below next serving made last j u Maker n h p = absurd p
-  has_below next serving made last j u Outside n h p = all_below made last ((u.number, u.seen) ∷ []) n (h.member, tt) p
-  has_below next serving made last j u Waiting n h p = all_below made last ((u.number, u.seen) ∷ []) n (h.owns.member, tt) p
-  has_below next serving made last j u Inside n h p = all_below made last ((u.number, u.seen) ∷ []) n (h.owns.member, tt) p
+  has_below next serving made last j u Outside n h p = (one_member made last (u.number, u.seen) h.member).1 n p
+  has_below next serving made last j u Waiting n h p = (one_member made last (u.number, u.seen) h.owns.member).1 n p
+  has_below next serving made last j u Inside n h p = (one_member made last (u.number, u.seen) h.owns.member).1 n p
   has_below next serving made last j u Note n h p = absurd p
-  has_below next serving made last j u Closing n h p = all_below made last u.members n h.members p
+  has_below next serving made last j u Closing n h p = h.members.1 n p
   has_below next serving made last j u Spent n h p = absurd p
 
   pub makes : (id : ℕ) (v : V) → v.stage ≡ Maker → 0 < v.share → Splits K id v (view_after_making v) (new_seat_view v)
@@ -199,7 +149,7 @@ module _ {S E F : Type 0} (story : S → List E) (maker : E → ℕ) (fixed : S 
       let free : has_ticket v.stage ≡ 0 = ap has_ticket is in
       cut s r id v left right (r.made + 1) at (omega arith) (omega arith) (omega arith) refl refl out out refl
       (subst (λ (z : Stage). Kn r.next r.serving (r.made + 1) r.last id left z) (sym is) record { is_first = kn.is_first; next_number = omega arith; to_make = omega arith; seen_first = kn.seen_first; has_fixed = kn.has_fixed; begins = kn.begins })
-      record { member = record { begins = kn.begins; all_own = (ap (λ n. entries_of maker n r.last) num ∙ (r.others r.made (λ j u e p. let lt = has_below r.next r.serving r.made r.last j u u.stage r.made (r.each j u e) p in absurd (omega arith)) ∙ ap₂ (λ n l. entries_of maker n l) (sym num) (sym kn.seen_first))); numbered = omega arith }; told_begins = prefix_nil r.last; has_fixed = kn.has_fixed; stands_for_one = refl; told_has_fixed = kn.has_fixed }
+      record { member = ((kn.begins, ap (λ n. entries_of maker n r.last) num ∙ (r.others r.made (λ j u e p. let lt = has_below r.next r.serving r.made r.last j u u.stage r.made (r.each j u e) p in absurd (omega arith)) ∙ ap₂ (λ n l. entries_of maker n l) (sym num) (sym kn.seen_first))), omega arith); told_begins = prefix_nil r.last; has_fixed = kn.has_fixed; stands_for_one = refl; told_has_fixed = kn.has_fixed }
       (λ j u ne e. one_more r.next r.serving r.made r.last j u u.stage (λ z. ne (z ∙ sym kn.is_first)) (r.each j u e))
       (λ j u ne e. ((λ n p _. absurd (none n p)), λ z _ _. absurd (omega arith)))
       (λ j u e. (
@@ -231,13 +181,12 @@ module _ {S E F : Type 0} (story : S → List E) (maker : E → ℕ) (fixed : S 
       (m.slot_stays story maker fixed k s' other w spent_view s.words r'.last at' (ap (m.is_inside story maker fixed k) is') refl r'.slot)
       (m.witness_stays story maker fixed k s'.views other w spent_view r'.last at' (λ e. absurd (subst (λ (z : Stage). AnyHasSeen (members_at z w) r'.last) is' e)) r'.witnessed)
 
-  members_append : (made : ℕ) (last : List E) (xs ys : List (ℕ × List E)) → AreMembers maker made last xs → AreMembers maker made last ys → AreMembers maker made last (xs ++ ys)
-  members_append made last [] ys g h = h
-  members_append made last (x ∷ xs) ys g h = (g.0, members_append made last xs ys g.1 h)
+  members_append : (made : ℕ) (last : List E) (xs ys : List (Holder E)) → AreMembers maker made last xs → AreMembers maker made last ys → AreMembers maker made last (xs ++ ys)
+  members_append made last xs ys g h = (join maker last xs ys g.0 h.0, λ n p. ⊎_elim (λ q. g.1 n q) (λ q. h.1 n q) (number_either xs ys n p))
 
   still_members : (next serving made : ℕ) (last : List E) (j : ℕ) (u : V) (a : Stage) → is_at_rest a ≡ 1 → Kn next serving made last j u a → (u.fixed ≡ Some fixed_value) × AreMembers maker made last (members_at a u) × (u.share ≡ length (members_at a u))
   still_members next serving made last j u Maker z h = absurd (omega arith)
-  still_members next serving made last j u Outside z h = (h.has_fixed, (h.member, tt), h.stands_for_one)
+  still_members next serving made last j u Outside z h = (h.has_fixed, one_member made last (u.number, u.seen) h.member, h.stands_for_one)
   still_members next serving made last j u Waiting z h = absurd (omega arith)
   still_members next serving made last j u Inside z h = absurd (omega arith)
   still_members next serving made last j u Note z h = absurd (omega arith)
@@ -273,7 +222,7 @@ module _ {S E F : Type 0} (story : S → List E) (maker : E → ℕ) (fixed : S 
       let at_b : get_elem? (set (set vs id b) other c) id ≡ some b = set_else (set vs id b) other id c (λ z. ne (sym z)) ∙ here vs id v b at in
       let with_c : (i j : ℕ) (u : V) → Ap i c j u = λ i j u. ((λ n p _. absurd p), λ z _ _. absurd (omega arith)) in
       let with_b : (j : ℕ) (u : V) → j ≢ id → j ≢ other → get_elem? vs j ≡ some u → Ap id b j u = λ j u nid no e.
-      ((λ n p q. ⊎_elim (λ t. absurd (no (sym ((r.apart other j w u at0 e).0 n t q)))) (λ t. absurd (nid (sym ((r.apart id j v u at e).0 n t q)))) (has_number_append (members_of w) (members_of v) n p)), λ z _ _. absurd (omega arith)) in record {
+      ((λ n p q. ⊎_elim (λ t. absurd (no (sym ((r.apart other j w u at0 e).0 n t q)))) (λ t. absurd (nid (sym ((r.apart id j v u at e).0 n t q)))) (number_either (members_of w) (members_of v) n p)), λ z _ _. absurd (omega arith)) in record {
         next = r.next;
         serving = r.serving;
         made = r.made;
@@ -284,9 +233,9 @@ module _ {S E F : Type 0} (story : S → List E) (maker : E → ℕ) (fixed : S 
         few = r.few;
         within = r.within;
         others = λ n none. r.others n (λ j u e p. dite (ℕ_discrete j id)
-            (λ same. none id b at_b (has_number_right (members_of w) (members_of v) n (subst (λ (z : V). HasNumber (members_of z) n) (m.same_view story maker fixed k vs j id u v e at same) p)))
+            (λ same. none id b at_b (number_right (members_of w) (members_of v) n (subst (λ (z : V). HasNumber (members_of z) n) (m.same_view story maker fixed k vs j id u v e at same) p)))
             (λ no. dite (ℕ_discrete j other)
-            (λ same. none id b at_b (has_number_left (members_of w) (members_of v) n (subst (λ (z : V). HasNumber (members_of z) n) (m.same_view story maker fixed k vs j other u w e at0 same) p)))
+            (λ same. none id b at_b (number_left (members_of w) (members_of v) n (subst (λ (z : V). HasNumber (members_of z) n) (m.same_view story maker fixed k vs j other u w e at0 same) p)))
             (λ not. none j u (set_else (set vs id b) other j c not ∙ (set_else vs id j b no ∙ e)) p)));
         each = after_join vs id other b c (λ j u. Kn r.next r.serving r.made r.last j u u.stage) record { has_fixed = kv.0; members = members_append r.made r.last (members_of w) (members_of v) kw.1 kv.1; counted = (let pv = kv.2 in let pw = kw.2 in let la = length-append (members_of w) (members_of v) in omega arith) } refl (λ j u _ _ e. r.each j u e);
         apart = λ i j x y ex ey. after_join vs id other b c (λ i x. Ap i x j y)
@@ -295,9 +244,9 @@ module _ {S E F : Type 0} (story : S → List E) (maker : E → ℕ) (fixed : S 
             (λ i x ni no e. after_join vs id other b c (λ j y. Ap i x j y) (m.apart_sym story maker fixed k id b i x (with_b i x ni no e)) (m.apart_sym story maker fixed k other c i x (with_c other i x)) (λ j y _ _ e'. r.apart i j x y e e') j y ey)
             i x ex;
         witnessed = ⊎_elim (λ t. inl t) (λ t. inr (dite (ℕ_discrete t.0 id)
-            (λ e. (id, b, at_b, any_seen_right (members_of w) (members_of v) r.last (subst (λ (z : V). AnyHasSeen (members_of z) r.last) (m.same_view story maker fixed k vs t.0 id t.1 v t.2 at e) t.3)))
+            (λ e. (id, b, at_b, seen_right (members_of w) (members_of v) r.last (subst (λ (z : V). AnyHasSeen (members_of z) r.last) (m.same_view story maker fixed k vs t.0 id t.1 v t.2 at e) t.3)))
             (λ no. dite (ℕ_discrete t.0 other)
-            (λ e. (id, b, at_b, any_seen_left (members_of w) (members_of v) r.last (subst (λ (z : V). AnyHasSeen (members_of z) r.last) (m.same_view story maker fixed k vs t.0 other t.1 w t.2 at0 e) t.3)))
+            (λ e. (id, b, at_b, seen_left (members_of w) (members_of v) r.last (subst (λ (z : V). AnyHasSeen (members_of z) r.last) (m.same_view story maker fixed k vs t.0 other t.1 w t.2 at0 e) t.3)))
             (λ not. (t.0, t.1, set_else (set vs id b) other t.0 c not ∙ (set_else vs id t.0 b no ∙ t.2), t.3))))) r.witnessed;
         slot = m.slot_stays story maker fixed k record { words = s.words; homes = s.homes; views = set vs id b } other w c s.words r.last at' fw.1 refl (m.slot_stays story maker fixed k s id v b s.words r.last at fv.1 refl r.slot);
       }
@@ -327,10 +276,10 @@ module _ {S E F : Type 0} (story : S → List E) (maker : E → ℕ) (fixed : S 
         subst (λ (l : List E). AreMembers maker k.seats l (members_of v)) (sym home.history) (members_widen r.made k.seats r.last (members_of v) r.within kv.1),
         (λ n none. ap (entries_of maker n) home.history ∙ r.others n (λ j u e p. dite (ℕ_discrete j id)
             (λ same. none (subst (λ (z : V). HasNumber (members_of z) n) (m.same_view story maker fixed k s.views j id u v e at same) p))
-            (λ no. nobody_else s r id v j u at all no e (has_number_some (members_of u) n p)))),
+            (λ no. nobody_else s r id v j u at all no e (number_some (members_of u) n p)))),
         ⊎_elim (λ t. inl (home.history ∙ t)) (λ t. inr (subst (λ (l : List E). AnyHasSeen (members_of v) l) (sym home.history) (dite (ℕ_discrete t.0 id)
             (λ e. subst (λ (z : V). AnyHasSeen (members_of z) r.last) (m.same_view story maker fixed k s.views t.0 id t.1 v t.2 at e) t.3)
-            (λ no. absurd (nobody_else s r id v t.0 t.1 at all no t.2 (any_seen_some (members_of t.1) r.last t.3)))))) r.witnessed,
+            (λ no. absurd (nobody_else s r id v t.0 t.1 at all no t.2 (seen_some (members_of t.1) r.last t.3)))))) r.witnessed,
       ))
       (λ away. let h : ℕ = away.holder in let u : V = away.view in let ku = m.knows story maker fixed k s r h u Inside away.found away.has_turn in
       let apart : id ≢ h = λ e. m.out story maker fixed k v.stage (still_free v.stage is).1 (ap (λ (z : V). z.stage) (sym (m.same_view story maker fixed k s.views h id u v away.found at (sym e))) ∙ away.has_turn) in

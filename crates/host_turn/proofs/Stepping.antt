@@ -1,5 +1,5 @@
 -- The steps of a seat keep the rule of the turn lock.
-use Rattle.std.proofs.Common.{◌≡◌, ◌≢◌, ◌⊎◌, ℕ, zero, suc, ◌+◌, ◌%◌, ◌^◌, ◌<◌, ◌≤◌, List, [], ◌∷◌, get_or, set, sym, refl, ap, subst, ◌∙◌, inl, inr, ⊎_elim, append-nil, arith}
+use Rattle.std.proofs.Common.{◌≡◌, ◌≢◌, ◌⊎◌, ℕ, ◌+◌, ◌%◌, ◌^◌, ◌<◌, ◌≤◌, List, [], ◌∷◌, get_or, set, sym, refl, ap, subst, ◌∙◌, inl, inr, ⊎_elim, append-nil, arith}
 use Rattle.std.proofs.Math.Nat.{mod-add-mod}
 use Rattle.std.specs.Prelude.{Option, Some, None}
 use Rattle.std.specs.Option.{unwrap_or}
@@ -11,21 +11,12 @@ use native.Mathlib.Decide.{ℕ_discrete}
 use lib.ListN.{get_elem?}
 use Rattle.atomic_table.specs.Table.{State, Me, step, keeps, takes, gives, Allows, homes_after, rest}
 use Rattle.atomic_table.proofs.Lists.{at_set, set_again, set_else, one_turn}
-use Rattle.host_turn.specs.declared.rule.Opening.{Opening}
-use Rattle.host_turn.specs.declared.view.View.{View}
-use Rattle.host_turn.specs.declared.view.Stage.{Stage}
-use Rattle.host_turn.specs.declared.view.Stage.TheVariants.{Maker, Outside, Waiting, Inside, Note, Closing, Spent}
-use Rattle.host_turn.specs.History.{entries_of, Adds, longer}
-use Rattle.host_turn.specs.Views.{total, has_ticket, HasNumber, AnyHasSeen, tickets_of, share_of, waiting_view, inside_view, outside_view, merged_view, members_at, members_of}
-use Rattle.host_turn.specs.Rule.{IsOpeningOrSeen, IsFree, IsMember, AreMembers, Owns, Knows, Apart, AtHome, Away, OneHistory}
-use Rattle.host_turn.specs.Steps.{DrawsTicket, TakesTurn, PassesTurn, MergesTold, held_history}
-use Rattle.host_turn.proofs.Totals.{total_set, total_le}
-use Rattle.host_turn.proofs.Histories.{prefix_refl, prefix_nil, prefix_trans, adds_none, entries_between, longer_left, longer_right, longer_begins, prefix_same}
-
-pub here : {A : Type 0} (xs : List A) (i : ℕ) (v w : A) → get_elem? xs i ≡ some v → get_elem? (set xs i w) i ≡ some w
-here [] i v w e = absurd (some-ne-none v (sym e))
-here (x ∷ xs) zero v w e = refl
-here (x ∷ xs) (suc i) v w e = here xs i v w e
+use Rattle.host_turn.specs.{Opening, View, Stage, Maker, Outside, Waiting, Inside, Note, Closing, Spent, has_ticket, tickets_of, share_of, waiting_view, inside_view, outside_view, merged_view, members_at, members_of, IsOpeningOrSeen, IsFree, Owns, Knows, Apart, AtHome, Away, OneHistory, DrawsTicket, TakesTurn, PassesTurn, MergesTold, held_history}
+use Rattle.host_log.specs.{entries_of, Adds, longer, Continues, HasNumber, AnyHasSeen, total}
+use Rattle.host_log.proofs.Totals.{total_set, total_le}
+use Rattle.host_log.proofs.Histories.{prefix_nil, prefix_trans, adds_none, prefix_same}
+use Rattle.host_log.proofs.Places.{here}
+use Rattle.host_log.proofs.Seeing.{continues_on, all_go_on, seen_all, is_told}
 
 module _ {S E F : Type 0} (story : S → List E) (maker : E → ℕ) (fixed : S → F) (k : Opening S) where
   abbrev pub V : Type 0
@@ -204,7 +195,7 @@ module _ {S E F : Type 0} (story : S → List E) (maker : E → ℕ) (fixed : S 
         ap (λ l. get_elem? l 0) home.in_slot,
         moved s r id v w (set s.words 1 y) (set s.homes 0 none) r.next r.serving r.last at (same_word s r) (let q : has_ticket v.stage ≡ 1 = ap has_ticket is in omega arith) refl (λ m p. subst (λ (z : Stage). HasNumber (members_at z v) m) is p) (λ _ _. refl)
             record {
-              owns = record { member = record { begins = ([], append-nil (story x) ∙ told); all_own = ap (entries_of maker v.number) (sym told); numbered = own.member.numbered }; told_begins = own.told_begins; has_fixed = own.has_fixed; stands_for_one = own.stands_for_one; told_has_fixed = own.told_has_fixed };
+              owns = record { member = ((([], append-nil (story x) ∙ told), ap (entries_of maker v.number) (sym told)), own.member.1); told_begins = own.told_begins; has_fixed = own.has_fixed; stands_for_one = own.stands_for_one; told_has_fixed = own.told_has_fixed };
               served = sym same;
               drawn = below;
               seen_all = told;
@@ -212,7 +203,7 @@ module _ {S E F : Type 0} (story : S → List E) (maker : E → ℕ) (fixed : S 
             (λ j u _ e. r.each j u e) (λ j u _ e. (names_apart s r id v Waiting at is j u e, λ _ two eq. (r.apart id j v u at e).1 (ap has_ticket is) two eq))
             (inr record { holder = id; view = w; found = here s.views id v w at; has_turn = refl; slot_out = ap (λ l. set l 0 none) home.in_slot }) (inr (id, w, here s.views id v w at, inl told)),
         (
-          (λ _. (x, refl, ((subst (λ l. IsPrefix v.seen l) (sym told) own.member.begins, ap (entries_of maker v.number) told ∙ own.member.all_own), own.has_fixed ∙ ap Some (sym home.has_fixed)))),
+          (λ _. (x, refl, (subst (λ (l : List E). Continues maker v.number v.seen l) (sym told) own.member.0, own.has_fixed ∙ ap Some (sym home.has_fixed)))),
           λ ne. absurd (ne hit),
         ),
       ))
@@ -222,15 +213,8 @@ module _ {S E F : Type 0} (story : S → List E) (maker : E → ℕ) (fixed : S 
       r.slot)
       (λ miss. (v, keeps, tt, unmoved s r id v at, ((λ hit. absurd (miss hit)), λ _. refl)))
 
-  member_on : (made : ℕ) (last last' : List E) (m : ℕ × List E) → IsPrefix last last' → entries_of maker m.0 last' ≡ entries_of maker m.0 last → IsMember maker made last m → IsMember maker made last' m
-  member_on made last last' m ext same h = record { begins = prefix_trans m.1 last last' h.begins ext; all_own = same ∙ h.all_own; numbered = h.numbered }
-
-  members_on : (made : ℕ) (last last' : List E) (ms : List (ℕ × List E)) → IsPrefix last last' → ((n : ℕ) → HasNumber ms n → entries_of maker n last' ≡ entries_of maker n last) → AreMembers maker made last ms → AreMembers maker made last' ms
-  members_on made last last' [] ext same h = tt
-  members_on made last last' (m ∷ ms) ext same h = (member_on made last last' m ext (same m.0 (inl refl)) h.0, members_on made last last' ms ext (λ n p. same n (inr p)) h.1)
-
   owns_on : (made : ℕ) (last last' : List E) (u : V) → IsPrefix last last' → entries_of maker u.number last' ≡ entries_of maker u.number last → Owns maker made last fixed_value u → Owns maker made last' fixed_value u
-  owns_on made last last' u ext same h = record { member = member_on made last last' (u.number, u.seen) ext same h.member; told_begins = prefix_trans u.told last last' h.told_begins ext; has_fixed = h.has_fixed; stands_for_one = h.stands_for_one; told_has_fixed = h.told_has_fixed }
+  owns_on made last last' u ext same h = record { member = (continues_on maker u.number u.seen last last' h.member.0 (ext, same), h.member.1); told_begins = prefix_trans u.told last last' h.told_begins ext; has_fixed = h.has_fixed; stands_for_one = h.stands_for_one; told_has_fixed = h.told_has_fixed }
 
   -- the turn passes on, after entries that aren't of this seat
   served : (next serving made : ℕ) (last last' : List E) (j : ℕ) (u : V) (a : Stage) → IsPrefix last last' → ((n : ℕ) → HasNumber (members_at a u) n → entries_of maker n last' ≡ entries_of maker n last) → (has_ticket a ≡ 1 → u.ticket ≢ serving)
@@ -241,7 +225,7 @@ module _ {S E F : Type 0} (story : S → List E) (maker : E → ℕ) (fixed : S 
       record { owns = owns_on made last last' u ext (same u.number (inl refl)) h.owns; not_past = omega arith; drawn = h.drawn }
   served next serving made last last' j u Inside ext same ne h = absurd (ne refl h.served)
   served next serving made last last' j u Note ext same ne h = record { begins = prefix_trans u.seen last last' h.begins ext; has_fixed = h.has_fixed; stands_for_none = h.stands_for_none }
-  served next serving made last last' j u Closing ext same ne h = record { has_fixed = h.has_fixed; members = members_on made last last' u.members ext same h.members; counted = h.counted }
+  served next serving made last last' j u Closing ext same ne h = record { has_fixed = h.has_fixed; members = (all_go_on maker last last' u.members ext same h.members.0, h.members.1); counted = h.counted }
   served next serving made last last' j u Spent ext same ne h = h
 
   pub pass_allowed : (n id : ℕ) (me : M) (x : S) → me.0.stage ≡ Inside → me.1 ≡ (0, Some x) ∷ [] → me.0.fixed ≡ Some (fixed x) → Adds maker me.0.number me.0.seen (story x)
@@ -260,7 +244,7 @@ module _ {S E F : Type 0} (story : S → List E) (maker : E → ℕ) (fixed : S 
             (let q : has_ticket v.stage ≡ 1 = ap has_ticket is in omega arith) refl
             (λ m p. subst (λ (z : Stage). HasNumber (members_at z v) m) is p)
             (λ m none. adds_none maker v.number m r.last ys (λ e. none (subst (λ (z : Stage). HasNumber (members_at z v) m) (sym is) (inl (sym e)))) more)
-            record { member = record { begins = prefix_refl ys; all_own = refl; numbered = own.member.numbered }; told_begins = prefix_trans v.told r.last ys own.told_begins ext; has_fixed = own.has_fixed; stands_for_one = own.stands_for_one; told_has_fixed = own.told_has_fixed }
+            record { member = (seen_all maker ys v.number, own.member.1); told_begins = prefix_trans v.told r.last ys own.told_begins ext; has_fixed = own.has_fixed; stands_for_one = own.stands_for_one; told_has_fixed = own.told_has_fixed }
             (λ j u ne e. served r.next r.serving r.made r.last ys j u u.stage ext
             (λ m p. adds_none maker v.number m r.last ys (λ same. ne (sym (names_apart s r id v Inside at is j u e m (inl (sym same)) p))) more)
             (λ two same. ne (sym ((r.apart id j v u at e).1 (ap has_ticket is) two (kn.served ∙ sym same))))
@@ -282,22 +266,21 @@ module _ {S E F : Type 0} (story : S → List E) (maker : E → ℕ) (fixed : S 
 
   pub merge_allowed : (n id : ℕ) (me : M) → me.0.stage ≡ Outside → Allows K n id me 1 (λ x. x) (MergesTold story maker fixed (step n 1 0 0 none) me)
   merge_allowed n id me is s r wide at small = let v : V = me.0 in let w : V = merged_view v in let own = knows s r id v Outside at is in
-      let a = longer_left v.seen v.told r.last own.member.begins own.told_begins in let b = longer_right v.seen v.told r.last own.member.begins own.told_begins in let c = longer_begins v.seen v.told r.last own.member.begins own.told_begins in
-      let same : entries_of maker v.number (longer v.seen v.told) ≡ entries_of maker v.number v.seen = entries_between maker v.number v.seen (longer v.seen v.told) r.last a c own.member.all_own in (
+      let meeting = is_told maker r.last (v.number, v.seen) v.told own.member.0 own.told_begins in (
         w,
         keeps,
         tt,
         moved s r id v w (set s.words 1 (get_or s.words 1 0)) s.homes r.next r.serving r.last at (same_word s r) refl refl
             (λ m p. subst (λ (z : Stage). HasNumber (members_at z w) m) (sym is) (subst (λ (z : Stage). HasNumber (members_at z v) m) is p)) (λ _ _. refl)
             (subst (λ (z : Stage). Knows maker r.next r.serving r.made k.seats first r.last fixed_value id w z) (sym is)
-            record { member = record { begins = c; all_own = own.member.all_own ∙ sym same; numbered = own.member.numbered }; told_begins = prefix_nil r.last; has_fixed = own.has_fixed; stands_for_one = own.stands_for_one; told_has_fixed = own.told_has_fixed })
+            record { member = (meeting.0, own.member.1); told_begins = prefix_nil r.last; has_fixed = own.has_fixed; stands_for_one = own.stands_for_one; told_has_fixed = own.told_has_fixed })
             (λ j u _ e. r.each j u e)
             (λ j u ne e. (subst (λ (z : Stage). (m : ℕ) → HasNumber (members_at z w) m → HasNumber (members_of u) m → id ≡ j) (sym is) (names_apart s r id v Outside at is j u e), (r.apart id j v u at e).1))
             (slot_stays s id v w (set s.words 1 (get_or s.words 1 0)) r.last at (ap is_inside is) (ap is_inside is) r.slot)
             (witness_stays s.views id v w r.last at
-            (λ e. subst (λ (z : Stage). AnyHasSeen (members_at z w) r.last) (sym is) (⊎_elim (λ whole. inl (prefix_same v.seen (longer v.seen v.told) r.last a c whole)) (λ none. absurd none) (subst (λ (z : Stage). AnyHasSeen (members_at z v) r.last) is e)))
+            (λ e. subst (λ (z : Stage). AnyHasSeen (members_at z w) r.last) (sym is) (⊎_elim (λ whole. inl (prefix_same v.seen (longer v.seen v.told) r.last meeting.1.0 meeting.0.0 whole)) (λ none. absurd none) (subst (λ (z : Stage). AnyHasSeen (members_at z v) r.last) is e)))
             r.witnessed),
-        (refl, b, (a, same), own.told_has_fixed ∙ sym own.has_fixed),
+        (refl, meeting.2, meeting.1, own.told_has_fixed ∙ sym own.has_fixed),
       )
 
   -- the same, for a seat that has just put its state into the slot

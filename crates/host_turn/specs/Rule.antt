@@ -1,27 +1,30 @@
--- The rule of the turn lock: one history, of which every seat has seen a beginning, with all of the seat's own entries.
--- Word 0 is the next ticket, and word 1 the ticket that is served, both modulo 2^64. The one slot holds the state while nobody has the turn.
-use Rattle.std.specs.Prelude.{◌≡◌, ◌≢◌, ◌⊎◌, ℕ, ◌+◌, ◌%◌, ◌^◌, ◌<◌, ◌≤◌, List, [], ◌∷◌, length, Option, Some}
+-- The rule of the turn lock: one history, of which every seat has seen a beginning, with all of the
+-- seat's own entries. Word 0 is the next ticket, and word 1 the ticket that is served, both modulo
+-- 2^64. The one slot holds the state while nobody has the turn.
+use Rattle.std.specs.Prelude.{◌≡◌, ◌≢◌, ◌⊎◌, ℕ, ◌+◌, ◌%◌, ◌^◌, ◌<◌, ◌≤◌, List, [], ◌∷◌, length}
+use Rattle.std.specs.Prelude.{Option, Some}
 use mathlib.Core.Option.{none, some}
 use mathlib.Core.List.{IsPrefix}
 use lib.ListN.{get_elem?}
 use Rattle.host_turn.specs.declared.rule.Opening.{Opening}
 use Rattle.host_turn.specs.declared.view.View.{View}
 use Rattle.host_turn.specs.declared.view.Stage.{Stage}
-use Rattle.host_turn.specs.declared.view.Stage.TheVariants.{Maker, Outside, Waiting, Inside, Note, Closing, Spent}
-use Rattle.host_turn.specs.History.{entries_of}
-use Rattle.host_turn.specs.Views.{total, has_ticket, HasNumber, AnyHasSeen, tickets_of, share_of, members_of}
+use Rattle.host_turn.specs.declared.view.Stage.TheVariants.{Maker, Outside, Waiting, Inside, Note}
+use Rattle.host_turn.specs.declared.view.Stage.TheVariants.{Closing, Spent}
+use Rattle.host_log.specs.History.{entries_of}
+use Rattle.host_turn.specs.Views.{has_ticket, tickets_of, share_of, members_of}
+use Rattle.host_log.specs.Seen.{Holder, HasNumber, AnyHasSeen, HasSeen, AllHaveSeen}
+use Rattle.host_log.specs.Sums.{total}
 use Rattle.atomic_table.specs.Table.{State}
 
 module _ {E : Type 0} (maker : E → ℕ) where
-  -- what was seen under a number is a beginning of the history `last`, with all entries of that number, and `made` seats were made
-  pub record IsMember (made : ℕ) (last : List E) (m : ℕ × List E) : Type 0 where
-    pub begins : IsPrefix m.1 last
-    pub all_own : entries_of maker m.0 last ≡ entries_of maker m.0 m.1
-    pub numbered : m.0 < made
+  -- one of the seats that were made has seen this of the history `last`
+  abbrev pub IsMember : ℕ → List E → Holder E → Type 0
+  IsMember made last m = HasSeen maker last m × (m.0 < made)
 
-  abbrev pub AreMembers : ℕ → List E → List (ℕ × List E) → Type 0
-  AreMembers made last [] = Unit {0}
-  AreMembers made last (m ∷ ms) = IsMember made last m × AreMembers made last ms
+  -- each of these is a seat that was made, and has seen this
+  abbrev pub AreMembers : ℕ → List E → List (Holder E) → Type 0
+  AreMembers made last ms = AllHaveSeen maker last ms × ((n : ℕ) → HasNumber ms n → n < made)
 
 module _ {E F : Type 0} (maker : E → ℕ) where
   -- what each seat knows of itself
@@ -33,7 +36,8 @@ module _ {E F : Type 0} (maker : E → ℕ) where
     pub told_has_fixed : v.told_fixed ≡ Some fixed_value
 
   -- the first view makes the seats, and stands for those that it hasn't made
-  pub record MakesSeats (made seats : ℕ) (first last : List E) (fixed_value : F) (j : ℕ) (v : View E F) : Type 0 where
+  pub record MakesSeats (made seats : ℕ) (first last : List E) (fixed_value : F) (j : ℕ)
+      (v : View E F) : Type 0 where
     pub is_first : j ≡ 0
     pub next_number : v.number ≡ made
     pub to_make : v.share + made ≡ seats
@@ -42,13 +46,15 @@ module _ {E F : Type 0} (maker : E → ℕ) where
     pub begins : IsPrefix v.seen last
 
   -- a seat waits with a ticket that is drawn and not past
-  pub record Waits (next serving made : ℕ) (last : List E) (fixed_value : F) (v : View E F) : Type 0 where
+  pub record Waits (next serving made : ℕ) (last : List E) (fixed_value : F) (v : View E F)
+      : Type 0 where
     pub owns : Owns made last fixed_value v
     pub not_past : serving ≤ v.ticket
     pub drawn : v.ticket < next
 
   -- a seat whose ticket is served has seen the whole history
-  pub record HasTurn (next serving made : ℕ) (last : List E) (fixed_value : F) (v : View E F) : Type 0 where
+  pub record HasTurn (next serving made : ℕ) (last : List E) (fixed_value : F) (v : View E F)
+      : Type 0 where
     pub owns : Owns made last fixed_value v
     pub served : v.ticket ≡ serving
     pub drawn : v.ticket < next
@@ -68,18 +74,24 @@ module _ {E F : Type 0} (maker : E → ℕ) where
 
   -- what the j-th view knows, by its stage, where `last` is the history as it was last left
   abbrev pub Knows : ℕ → ℕ → ℕ → ℕ → List E → List E → F → ℕ → View E F → Stage → Type 0
-  Knows next serving made seats first last fixed_value j v Maker = MakesSeats made seats first last fixed_value j v
+  Knows next serving made seats first last fixed_value j v Maker =
+      MakesSeats made seats first last fixed_value j v
   Knows next serving made seats first last fixed_value j v Outside = Owns made last fixed_value v
-  Knows next serving made seats first last fixed_value j v Waiting = Waits next serving made last fixed_value v
-  Knows next serving made seats first last fixed_value j v Inside = HasTurn next serving made last fixed_value v
+  Knows next serving made seats first last fixed_value j v Waiting =
+      Waits next serving made last fixed_value v
+  Knows next serving made seats first last fixed_value j v Inside =
+      HasTurn next serving made last fixed_value v
   Knows next serving made seats first last fixed_value j v Note = Tells last fixed_value v
-  Knows next serving made seats first last fixed_value j v Closing = HasTakenIn made last fixed_value v
+  Knows next serving made seats first last fixed_value j v Closing =
+      HasTakenIn made last fixed_value v
   Knows next serving made seats first last fixed_value j v Spent = v.share ≡ 0
 
 module _ {S E F : Type 0} (story : S → List E) (maker : E → ℕ) (fixed : S → F) where
   -- two views have no number in common, and different tickets
   abbrev pub Apart : ℕ → View E F → ℕ → View E F → Type 0
-  Apart i v j w = ((n : ℕ) → HasNumber (members_of v) n → HasNumber (members_of w) n → i ≡ j) × (has_ticket v.stage ≡ 1 → has_ticket w.stage ≡ 1 → v.ticket ≡ w.ticket → i ≡ j)
+  Apart i v j w =
+      ((n : ℕ) → HasNumber (members_of v) n → HasNumber (members_of w) n → i ≡ j)
+      × (has_ticket v.stage ≡ 1 → has_ticket w.stage ≡ 1 → v.ticket ≡ w.ticket → i ≡ j)
 
   module _ (k : Opening S) (s : State (Option S) (View E F)) (last : List E) where
     -- nobody has the turn, and the state is in the slot
@@ -100,11 +112,14 @@ module _ {S E F : Type 0} (story : S → List E) (maker : E → ℕ) (fixed : S 
 
   -- nothing was added yet, or some seat has seen the whole history
   abbrev pub IsOpeningOrSeen : List E → List (View E F) → List E → Type 0
-  IsOpeningOrSeen first views last = (last ≡ first) ⊎ ((j : ℕ) × (v : View E F) × (get_elem? views j ≡ some v) × AnyHasSeen (members_of v) last)
+  IsOpeningOrSeen first views last =
+      (last ≡ first)
+      ⊎ ((j : ℕ) × (v : View E F) × (get_elem? views j ≡ some v) × AnyHasSeen (members_of v) last)
 
   -- no view has this number
   abbrev pub IsFree : List (View E F) → ℕ → Type 0
-  IsFree views n = (j : ℕ) (v : View E F) → get_elem? views j ≡ some v → ¬ HasNumber (members_of v) n
+  IsFree views n =
+      (j : ℕ) (v : View E F) → get_elem? views j ≡ some v → ¬ HasNumber (members_of v) n
 
   -- the rule
   pub record OneHistory (k : Opening S) (s : State (Option S) (View E F)) : Type 0 where
@@ -117,12 +132,27 @@ module _ {S E F : Type 0} (story : S → List E) (maker : E → ℕ) (fixed : S 
     pub shares : total share_of s.views ≡ k.seats
     pub few : k.seats < 2 ^ 32
     pub within : made ≤ k.seats
-    pub others : (n : ℕ) → IsFree s.views n → entries_of maker n last ≡ entries_of maker n (story k.state.value)
-    pub each : (j : ℕ) (v : View E F) → get_elem? s.views j ≡ some v → Knows maker next serving made k.seats (story k.state.value) last (fixed k.state.value) j v v.stage
-    pub apart : (i j : ℕ) (v w : View E F) → get_elem? s.views i ≡ some v → get_elem? s.views j ≡ some w → Apart i v j w
+    pub others : (n : ℕ) → IsFree s.views n
+        → entries_of maker n last ≡ entries_of maker n (story k.state.value)
+    pub each : (j : ℕ) (v : View E F) → get_elem? s.views j ≡ some v
+        → Knows maker next serving made k.seats (story k.state.value) last (fixed k.state.value) j v
+        v.stage
+    pub apart : (i j : ℕ) (v w : View E F) → get_elem? s.views i ≡ some v
+        → get_elem? s.views j ≡ some w → Apart i v j w
     pub witnessed : IsOpeningOrSeen (story k.state.value) s.views last
     pub slot : AtHome k s last ⊎ Away k s last
 
   -- the view that the book is made with: it makes the seats
   abbrev pub first_view : Opening S → View E F
-  first_view k = record { stage = Maker; number = 0; ticket = 0; share = k.seats; fixed = Some (fixed k.state.value); seen = story k.state.value; told = []; told_fixed = Some (fixed k.state.value); members = [] }
+  first_view k =
+      record {
+        stage = Maker;
+        number = 0;
+        ticket = 0;
+        share = k.seats;
+        fixed = Some (fixed k.state.value);
+        seen = story k.state.value;
+        told = [];
+        told_fixed = Some (fixed k.state.value);
+        members = [];
+      }

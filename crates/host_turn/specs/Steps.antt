@@ -1,8 +1,9 @@
--- What each step of a seat tells. A step finds the number r, and m becomes m', a view with the slots that the seat holds.
+-- What each step of a seat tells. A step finds the number r, and m becomes m', a view with the
+-- slots that the seat holds.
 use Rattle.std.specs.Prelude.{◌≡◌, ◌≢◌, ℕ, ◌%◌, ◌^◌, List, [], ◌∷◌, Option, Some, None}
 use mathlib.Core.List.{IsPrefix}
 use Rattle.host_turn.specs.declared.view.View.{View}
-use Rattle.host_turn.specs.History.{Continues}
+use Rattle.host_log.specs.History.{Continues}
 use Rattle.host_turn.specs.Views.{waiting_view, inside_view, outside_view, merged_view}
 use Rattle.atomic_table.specs.Table.{Me, Step, rest}
 
@@ -20,7 +21,10 @@ module _ {S E F : Type 0} (story : S → List E) (maker : E → ℕ) (fixed : S 
 
   -- where its ticket is served the seat has the turn and the slot, else nothing changes
   abbrev pub TakesTurn : Step (Option S) → Seated → ℕ → Seated → Type 0
-  TakesTurn st m r m' = (r ≡ m.0.ticket % 2 ^ 64 → (x : S) × (m' ≡ (inside_view m.0 (story x), (0, Some x) ∷ m.1)) × IsStateFor m.0 x) × (r ≢ m.0.ticket % 2 ^ 64 → m' ≡ m)
+  TakesTurn st m r m' =
+      (r ≡ m.0.ticket % 2 ^ 64
+      → (x : S) × (m' ≡ (inside_view m.0 (story x), (0, Some x) ∷ m.1)) × IsStateFor m.0 x)
+      × (r ≢ m.0.ticket % 2 ^ 64 → m' ≡ m)
 
   abbrev pub history_of : Option S → List E
   history_of None = []
@@ -37,4 +41,6 @@ module _ {S E F : Type 0} (story : S → List E) (maker : E → ℕ) (fixed : S 
 
   -- the seat has seen what it was told, and what told it has the same fixed part
   abbrev pub MergesTold : Step (Option S) → Seated → ℕ → Seated → Type 0
-  MergesTold st m r m' = (m' ≡ (merged_view m.0, m.1)) × IsPrefix m.0.told m'.0.seen × Continues maker m.0.number m.0.seen m'.0.seen × (m.0.told_fixed ≡ m.0.fixed)
+  MergesTold st m r m' =
+      (m' ≡ (merged_view m.0, m.1)) × IsPrefix m.0.told m'.0.seen
+      × Continues maker m.0.number m.0.seen m'.0.seen × (m.0.told_fixed ≡ m.0.fixed)

@@ -1,14 +1,11 @@
 -- What a seat's view says, and how it changes.
-use Rattle.std.specs.Prelude.{◌≡◌, ◌⊎◌, ℕ, ◌+◌, ◌-◌, List, [], ◌∷◌, ◌++◌, None}
+use Rattle.std.specs.Prelude.{ℕ, ◌+◌, ◌-◌, List, [], ◌∷◌, ◌++◌, None}
 use Rattle.host_turn.specs.declared.view.View.{View}
 use Rattle.host_turn.specs.declared.view.Stage.{Stage}
-use Rattle.host_turn.specs.declared.view.Stage.TheVariants.{Outside, Waiting, Inside, Note, Closing, Spent}
-use Rattle.host_turn.specs.History.{longer}
-
--- the values of a function on a list, added up
-abbrev pub total : {A : Type 0} → (A → ℕ) → List A → ℕ
-total f [] = 0
-total f (x ∷ xs) = f x + total f xs
+use Rattle.host_turn.specs.declared.view.Stage.TheVariants.{Outside, Waiting, Inside, Note, Closing}
+use Rattle.host_turn.specs.declared.view.Stage.TheVariants.{Spent}
+use Rattle.host_log.specs.History.{longer}
+use Rattle.host_log.specs.Seen.{Holder}
 
 -- 1 where the stage has a ticket
 abbrev pub has_ticket : Stage → ℕ
@@ -22,16 +19,6 @@ is_at_rest Outside = 1
 is_at_rest Closing = 1
 is_at_rest _ = 0
 
--- a member is a seat's number with what it has seen; one of them has this number
-abbrev pub HasNumber : {E : Type 0} → List (ℕ × List E) → ℕ → Type 0
-HasNumber [] n = ⊥
-HasNumber (m ∷ ms) n = (m.0 ≡ n) ⊎ HasNumber ms n
-
--- one of the members has seen just this history
-abbrev pub AnyHasSeen : {E : Type 0} → List (ℕ × List E) → List E → Type 0
-AnyHasSeen [] xs = ⊥
-AnyHasSeen (m ∷ ms) xs = (m.1 ≡ xs) ⊎ AnyHasSeen ms xs
-
 module _ {E F : Type 0} where
   -- how many tickets the view has
   abbrev pub tickets_of : View E F → ℕ
@@ -42,14 +29,14 @@ module _ {E F : Type 0} where
   share_of v = v.share
 
   -- the members that the view stands for, by its stage
-  abbrev pub members_at : Stage → View E F → List (ℕ × List E)
+  abbrev pub members_at : Stage → View E F → List (Holder E)
   members_at Outside v = (v.number, v.seen) ∷ []
   members_at Waiting v = (v.number, v.seen) ∷ []
   members_at Inside v = (v.number, v.seen) ∷ []
   members_at Closing v = v.members
   members_at _ v = []
 
-  abbrev pub members_of : View E F → List (ℕ × List E)
+  abbrev pub members_of : View E F → List (Holder E)
   members_of v = members_at v.stage v
 
   -- it has drawn the ticket t
@@ -66,7 +53,18 @@ module _ {E F : Type 0} where
 
   -- a note of what the view has seen
   abbrev pub note_view : View E F → View E F
-  note_view v = record { stage = Note; number = 0; ticket = 0; share = 0; fixed = v.fixed; seen = v.seen; told = []; told_fixed = v.fixed; members = [] }
+  note_view v =
+      record {
+        stage = Note;
+        number = 0;
+        ticket = 0;
+        share = 0;
+        fixed = v.fixed;
+        seen = v.seen;
+        told = [];
+        told_fixed = v.fixed;
+        members = [];
+      }
 
   -- it has taken in a note
   abbrev pub told_view : View E F → View E F → View E F
@@ -82,12 +80,45 @@ module _ {E F : Type 0} where
 
   -- the seat that the maker makes
   abbrev pub new_seat_view : View E F → View E F
-  new_seat_view v = record { stage = Outside; number = v.number; ticket = 0; share = 1; fixed = v.fixed; seen = v.seen; told = []; told_fixed = v.fixed; members = [] }
+  new_seat_view v =
+      record {
+        stage = Outside;
+        number = v.number;
+        ticket = 0;
+        share = 1;
+        fixed = v.fixed;
+        seen = v.seen;
+        told = [];
+        told_fixed = v.fixed;
+        members = [];
+      }
 
   -- it has taken in another seat for good
   abbrev pub gathered_view : View E F → View E F → View E F
-  gathered_view v w = record { stage = Closing; number = 0; ticket = 0; share = v.share + w.share; fixed = v.fixed; seen = []; told = []; told_fixed = v.fixed; members = members_of w ++ members_of v }
+  gathered_view v w =
+      record {
+        stage = Closing;
+        number = 0;
+        ticket = 0;
+        share = v.share + w.share;
+        fixed = v.fixed;
+        seen = [];
+        told = [];
+        told_fixed = v.fixed;
+        members = members_of w ++ members_of v;
+      }
 
   -- it was taken in
   abbrev pub spent_view : View E F
-  spent_view = record { stage = Spent; number = 0; ticket = 0; share = 0; fixed = None; seen = []; told = []; told_fixed = None; members = [] }
+  spent_view =
+      record {
+        stage = Spent;
+        number = 0;
+        ticket = 0;
+        share = 0;
+        fixed = None;
+        seen = [];
+        told = [];
+        told_fixed = None;
+        members = [];
+      }

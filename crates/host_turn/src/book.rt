@@ -1,7 +1,9 @@
 //! The book: a state behind a ticket lock.
-ghost use Rattle.std.specs.Prelude.{◌≡◌, ◌≢◌, ◌⊎◌, ℕ, ◌+◌, ◌<◌, ◌≤◌, Some, [], ◌∷◌, ◌++◌, map, drop, length, All, IfOk, IfErr, MatchOption, vec_len, vec_capacity};
+ghost use Rattle.std.specs.Prelude.{◌≡◌, ◌≢◌, ◌⊎◌, ℕ, ◌+◌, ◌<◌, ◌≤◌, Some, [], ◌∷◌, ◌++◌, map};
+ghost use Rattle.std.specs.Prelude.{drop, length, All, IfOk, IfErr, MatchOption, vec_len};
+ghost use Rattle.std.specs.Prelude.{vec_capacity};
 ghost use mathlib.Core.List.{IsPrefix};
-ghost use Rattle.host_turn.specs.History.{entries_of, Adds, Continues, longer};
+ghost use Rattle.host_log.specs.History.{entries_of, Adds, Continues, longer};
 
 use crate::rule::{Opening, TurnRule};
 use crate::seat::BookSeat;
@@ -20,8 +22,8 @@ const NEXT: usize = 0;
 
 const SERVING: usize = 1;
 
-// How often a seat looks before it pauses, how often it does both before it draws a ticket, and how many of the first
-// pauses only let other threads run, where later ones sleep.
+// How often a seat looks before it pauses, how often it does both before it draws a ticket, and how
+// many of the first pauses only let other threads run, where later ones sleep.
 const LOOKS: u32 = 100;
 
 const PAUSES: u32 = 1000;
@@ -33,7 +35,8 @@ const NAP: u64 = 50;
 
 /// A state behind a ticket lock. Its seats take turns, and whoever has the turn has the state.
 ///
-/// A book may be shared by threads where its state may be sent. Where the state may be dropped, so may the book.
+/// A book may be shared by threads where its state may be sent. Where the state may be dropped, so
+/// may the book.
 #[derive(Drop)]
 pub struct Book<S: Story> {
     pub(crate) table: Table<Option<S>, View<S::Entry, S::Fixed>, Opening<S>, TurnRule<S>, Global>,
@@ -47,9 +50,14 @@ pub struct NoBook<S> {
 }
 
 impl<S: Story> Book<S> {
-    ghost use Rattle.host_turn.specs.Seats.{IsMaker, IsSeatOf, IsOutside, IsWaiting, IsInside, IsSameSeat, IsSeatOutside, IsNewSeat, AreNewSeats, IsNote, HasGathered, IsSeenBySome, member_of, number, seen_by, told_by, fixed_part, fixed_part_of, own_entries, book_id, opening_of, seat_count};
+    ghost use Rattle.host_turn.specs.Seats.{IsMaker, IsSeatOf, IsOutside, IsWaiting, IsInside};
+    ghost use Rattle.host_turn.specs.Seats.{IsSameSeat, IsSeatOutside, IsNewSeat, AreNewSeats};
+    ghost use Rattle.host_turn.specs.Seats.{IsNote, HasGathered, IsSeenBySome, member_of, number};
+    ghost use Rattle.host_turn.specs.Seats.{seen_by, told_by, fixed_part, fixed_part_of};
+    ghost use Rattle.host_turn.specs.Seats.{own_entries, book_id, opening_of, seat_count};
 
-    /// A book with its seats, numbered from 0 by their places. It has `NoBook` for an answer only for want of memory.
+    /// A book with its seats, numbered from 0 by their places. It has `NoBook` for an answer only
+    /// for want of memory.
     pub fn new(
         alloc: Global,
         state: S,
@@ -122,7 +130,8 @@ impl<S: Story> Book<S> {
         seats.pop().unwrap()
     }
 
-    /// Waits for the turn, and takes the state. Its history goes on from what the seat has seen, and the entries under the seat's number are those that the seat left.
+    /// Waits for the turn, and takes the state. Its history goes on from what the seat has seen,
+    /// and the entries under the seat's number are those that the seat left.
     pub fn enter<R: Wait>(&self, rt: &R, seat: &mut BookSeat<S>) -> S
         requires { IsSeatOf self.now seat.old × IsOutside seat.old }
         ensures seat { IsSameSeat seat.old seat.new × IsInside seat.new }
@@ -141,7 +150,8 @@ impl<S: Story> Book<S> {
         unreachable!()
     }
 
-    /// The same, until a history of n entries or more is found: the turn is given up and taken anew as often as that takes.
+    /// The same, until a history of n entries or more is found: the turn is given up and taken anew
+    /// as often as that takes.
     pub fn enter_past<R: Wait>(&self, rt: &R, seat: &mut BookSeat<S>, n: u64) -> S
         requires { IsSeatOf self.now seat.old × IsOutside seat.old }
         ensures seat { IsSameSeat seat.old seat.new × IsInside seat.new }
@@ -161,8 +171,9 @@ impl<S: Story> Book<S> {
         unreachable!()
     }
 
-    // Waits until no ticket is out, but not for long. The turn goes to tickets in their order, and stands still while the
-    // thread whose ticket is served doesn't run, so as few as may be are drawn ahead.
+    // Waits until no ticket is out, but not for long. The turn goes to tickets in their order, and
+    // stands still while the thread whose ticket is served doesn't run, so as few as may be are
+    // drawn ahead.
     fn wait_for_quiet<R: Wait>(&self, rt: &R) {
         for pause in 0..PAUSES {
             if self.is_quiet() {
@@ -176,14 +187,16 @@ impl<S: Story> Book<S> {
         }
     }
 
-    // Sleeps for a moment, unless the turn was passed on just before. It leaves the processor to the thread that has the turn.
+    // Sleeps for a moment, unless the turn was passed on just before. It leaves the processor to
+    // the thread that has the turn.
     fn nap<R: Wait>(&self, rt: &R) {
         let shared = &self.table.shared;
         let served = (shared.peek(SERVING) & 0xffff_ffff) as u32;
         shared.park_timeout(rt, SERVING, served, Duration::from_micros(NAP));
     }
 
-    // Whether a look found no ticket that is out. It tells nothing for certain: another seat may draw one in between.
+    // Whether a look found no ticket that is out. It tells nothing for certain: another seat may
+    // draw one in between.
     fn is_quiet(&self) -> bool {
         let shared = &self.table.shared;
         for _ in 0..LOOKS {
@@ -241,7 +254,8 @@ impl<S: Story> Book<S> {
         }
     }
 
-    /// Hands the state back, and the turn on. The history may have grown by entries with the seat's number, which become the last of its own.
+    /// Hands the state back, and the turn on. The history may have grown by entries with the seat's
+    /// number, which become the last of its own.
     pub fn leave(&self, seat: &mut BookSeat<S>, state: S)
         requires seat { IsSeatOf self.now seat.old × IsInside seat.old }
         requires story { Adds S.maker (number seat.old) (seen_by seat.old) (S.story state) }
@@ -257,7 +271,8 @@ impl<S: Story> Book<S> {
         shared.fetch_add::<PassTurn<S>>(&mut seat.seat, SERVING, 1);
     }
 
-    /// Tells `to` what `from` has seen. Afterwards `to` has seen the longer of both, each of which begins it. It waits for nobody.
+    /// Tells `to` what `from` has seen. Afterwards `to` has seen the longer of both, each of which
+    /// begins it. It waits for nobody.
     pub fn meet(&self, from: &mut BookSeat<S>, to: &mut BookSeat<S>)
         requires from { IsSeatOf self.now from.old × IsOutside from.old }
         requires to { IsSeatOf self.now to.old × IsOutside to.old }
@@ -285,7 +300,8 @@ impl<S: Story> Book<S> {
         shared.split_seat::<TellSeen>(&mut from.seat)
     }
 
-    // The seat takes a note in, and has then seen the longer of what it had seen and what the note tells.
+    // The seat takes a note in, and has then seen the longer of what it had seen and what the note
+    // tells.
     fn take_note(&self, to: &mut BookSeat<S>, note: Seat<Option<S>, View<S::Entry, S::Fixed>>)
         requires to { IsSeatOf self.now to.old × IsOutside to.old }
         requires note { IsNote (book_id self.now) note }
@@ -300,15 +316,19 @@ impl<S: Story> Book<S> {
         shared.load::<MergeTold<S>>(&mut to.seat, SERVING);
     }
 
-    /// Ends the turns, and gives the state with the one history. Every seat has seen a beginning of it, and each seat's entries in it are the seat's own, each once and in order.
+    /// Ends the turns, and gives the state with the one history. Every seat has seen a beginning of
+    /// it, and each seat's entries in it are the seat's own, each once and in order.
     pub fn close(self, mut seats: Vec<BookSeat<S>>) -> S
         requires all { (vec_len seats ≡ seat_count self) × (0 < vec_len seats) }
         requires outside { All (λ q. IsSeatOutside self q) seats.items }
-        ensures seats { All (λ q. Continues S.maker (number q) (seen_by q) (S.story result)) seats.items }
-        ensures others { (n : ℕ) → All (λ q. number q ≢ n) seats.items →
-            entries_of S.maker n (S.story result) ≡ entries_of S.maker n (S.story (opening_of self)) }
+        ensures seats { All (λ q. Continues S.maker (number q) (seen_by q) (S.story result))
+            seats.items }
+        ensures others { (n : ℕ) → All (λ q. number q ≢ n) seats.items
+            → entries_of S.maker n (S.story result)
+            ≡ entries_of S.maker n (S.story (opening_of self)) }
         ensures numbers { All (λ q. number q < seat_count self) seats.items }
-        ensures whole { (S.story result ≡ S.story (opening_of self)) ⊎ IsSeenBySome seats.items (S.story result) }
+        ensures whole { (S.story result ≡ S.story (opening_of self))
+            ⊎ IsSeenBySome seats.items (S.story result) }
         ensures fixed_part { S.fixed result ≡ S.fixed (opening_of self) }
     {
         let mut base = seats.pop().unwrap();

@@ -1,4 +1,5 @@
-//! A ticket lock that hands its state round by value and knows its history, a list that only grows, in which every entry names its maker.
+//! A ticket lock that hands its state round by value and knows its history, a list that only grows,
+//! in which every entry names its maker.
 #![tactic(auto)]
 
 mod book;

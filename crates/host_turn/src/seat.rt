@@ -3,7 +3,8 @@ use crate::story::Story;
 use crate::view::View;
 use atomic_table::Seat;
 
-/// The right to take turns at one book, under one number. It has no bytes, and may go to another thread.
+/// The right to take turns at one book, under one number. It has no bytes, and may go to another
+/// thread.
 ///
 /// A seat that is dropped while it has the turn leaves its book shut for good.
 #[derive(Drop)]

@@ -1,5 +1,6 @@
 //! What each step of a seat tells. These types are for the proofs alone.
-ghost use Rattle.host_turn.specs.Views.{view_after_making, new_seat_view, note_view, told_view, gathered_view, spent_view};
+ghost use Rattle.host_turn.specs.Views.{view_after_making, new_seat_view, note_view, told_view};
+ghost use Rattle.host_turn.specs.Views.{gathered_view, spent_view};
 ghost use Rattle.host_turn.specs.Steps.{DrawsTicket, TakesTurn, PassesTurn, MergesTold};
 
 use crate::story::Story;

@@ -6,7 +6,8 @@ pub trait Story {
     /// What one turn adds, such as a device step.
     type Entry;
 
-    /// Plain data about the state that never changes: a size, an opening, or which other book a seat in the state is of.
+    /// Plain data about the state that never changes: a size, an opening, or which other book a
+    /// seat in the state is of.
     type Fixed;
 
     /// The entries, oldest first.

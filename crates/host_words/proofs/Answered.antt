@@ -5,43 +5,37 @@ use Rattle.std.specs.Str.{bytes_eq}
 use Rattle.std.proofs.lemmas.Slice.Eq.{bytes_eq-Decides}
 use Rattle.host_words.proofs.WordKinds.{short_refused}
 use Rattle.clap.specs.declared.parser.matches.ArgMatches.{ArgMatches}
-use Rattle.host_words.specs.Commands.{Meaning, Reads, ReadsAs, ReadsNamed, command_named, command_of, list_meaning, list_options, load_meaning, load_options, make_meaning, make_options, meaning_of, of_command, run_meaning, run_options, under_names}
-use Rattle.host_words.specs.Given.{Options, Word, has_short}
-use Rattle.host_words.specs.Matches.{IsGiven, IsGivenBy, texts_in}
-use Rattle.host_words.specs.Steps.{◌>>=◌}
-use Rattle.host_words.specs.declared.command.Command.{Command}
-use Rattle.host_words.specs.declared.words_error.WordsError.{WordsError}
-use Rattle.host_words.specs.declared.words_error.WordsError.TheVariants.{BadWords, Oom}
+use Rattle.host_words.specs.{Meaning, ReadsWords, ReadsAs, ReadsNamed, command_named, command_of, list_meaning, list_options, load_meaning, load_options, make_meaning, make_options, meaning_of, of_command, run_meaning, run_options, under_names, Options, Word, has_short, IsGiven, IsGivenBy, texts_in, ◌>>=◌, Command, WordsError, BadWords, Oom}
 
 module _ (o : Options) (meaning : (Word → List Word) → Option Meaning) where
   refused_by : (words : List Word) (e : WordsError) → IsGivenBy o words (Err e) → ReadsAs (of_command o meaning words) (Err e)
   refused_by words BadWords h = ap (λ g. g >>= (λ given. meaning (under_names given))) h
   refused_by words Oom h = tt
 
-  refused : (words : List Word) (e : WordsError) → IsGiven o words (Err e) → Reads o meaning words (Err e)
+  refused : (words : List Word) (e : WordsError) → IsGiven o words (Err e) → ReadsWords o meaning words (Err e)
   refused [] e h = tt
   refused (w ∷ words) e h = refused_by words e h
 
   -- `?` passes a refusal up as it is
-  pub refused_up : (words : List Word) (r : Result Command WordsError) (e : WordsError) → IsErrAnd r (λ y. y ≡ e) → IsGiven o words (Err e) → Reads o meaning words r
+  pub refused_up : (words : List Word) (r : Result Command WordsError) (e : WordsError) → IsErrAnd r (λ y. y ≡ e) → IsGiven o words (Err e) → ReadsWords o meaning words r
   refused_up words (Ok x) e is h = absurd is
-  refused_up words (Err y) e is h = subst (λ x. Reads o meaning words (Err x)) (sym is) (refused words e h)
+  refused_up words (Err y) e is h = subst (λ x. ReadsWords o meaning words (Err x)) (sym is) (refused words e h)
 
   meant : (words : List Word) (m : ArgMatches) → IsGivenBy o words (Ok m) → of_command o meaning words ≡ meaning (texts_in m)
   meant words m (given, is, same) = ap (λ g. g >>= (λ x. meaning (under_names x))) is ∙ sym (λ i. meaning (λ name. same name i))
 
-  pub accepted : (words : List Word) (m : ArgMatches) (command : Command) → IsGiven o words (Ok m) → Some (meaning_of command) ≡ meaning (texts_in m) → Reads o meaning words (Ok command)
+  pub accepted : (words : List Word) (m : ArgMatches) (command : Command) → IsGiven o words (Ok m) → Some (meaning_of command) ≡ meaning (texts_in m) → ReadsWords o meaning words (Ok command)
   accepted [] m command h is = tt
   accepted (w ∷ words) m command h is = meant words m h ∙ sym is
 
-  pub meaningless : (words : List Word) (m : ArgMatches) → IsGiven o words (Ok m) → None ≡ meaning (texts_in m) → Reads o meaning words (Err BadWords)
+  pub meaningless : (words : List Word) (m : ArgMatches) → IsGiven o words (Ok m) → None ≡ meaning (texts_in m) → ReadsWords o meaning words (Err BadWords)
   meaningless [] m h is = tt
   meaningless (w ∷ words) m h is = meant words m h ∙ sym is
 
 -- ---- the name
 
 pub named_as : (name : Word) (o : Options) (meaning : (Word → List Word) → Option Meaning) (words : List Word) (r : Result Command WordsError)
-    → ((rest : List Word) → command_named name rest ≡ of_command o meaning rest) → Reads o meaning words r → ReadsNamed name words r
+    → ((rest : List Word) → command_named name rest ≡ of_command o meaning rest) → ReadsWords o meaning words r → ReadsNamed name words r
 named_as name o meaning [] r same h = tt
 named_as name o meaning (w ∷ rest) r same h = subst (λ g. ReadsAs g r) (sym (same rest)) h
 

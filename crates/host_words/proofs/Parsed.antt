@@ -22,9 +22,8 @@ use Rattle.clap.specs.Kinds.{HasKind, IsAmong, Kinds, or_else}
 use Rattle.clap.specs.Simple.{App, matches_of}
 use Rattle.clap.specs.Takes.{is_given}
 use Rattle.clap.specs.Walk.{Row, Rule, all_of, finished, has_row, is_empty, nothing_held, rows_of, settled, Walk, walk, walk_from, with_default}
-use Rattle.host_words.specs.Given.{Given, Options, Word, given_by, has_short, values}
-use Rattle.host_words.specs.Syntax.{syntax}
-use Rattle.host_words.specs.Matches.{IsGiven, IsGivenBy, IsProper, refusal_of, texts_in}
+use Rattle.host_words.specs.Given.{Given}
+use Rattle.host_words.specs.{Options, Word, given_by, has_short, values, syntax, IsGiven, IsGivenBy, IsProper, refusal_of, texts_in}
 use Rattle.host_words.proofs.Rules.{all_rules, built_is, built_plain, built_rules, built_shape, built_valued, built_words, none_rules}
 use Rattle.host_words.proofs.Turns.{all_added, nothing, value_added}
 use Rattle.host_words.proofs.Walks.{Goes, walks}

@@ -10,9 +10,7 @@ use Rattle.clap.specs.Faults.{is_simple_and_free}
 use Rattle.clap.specs.Simple.{Shape, built, filled_from, is_in_order, new_shape}
 use Rattle.clap.specs.Walk.{Rule, arg_by_id, arg_by_index, arg_by_long, has_long, is_early_multiple}
 use Rattle.clap.specs.declared.builder.value_parser.ValueParser.TheVariants as vp
-use Rattle.host_words.specs.Given.{Options, Word, has_name, words_name}
-use Rattle.host_words.specs.Matches.{IsProper}
-use Rattle.host_words.specs.Syntax.{rules, syntax, valued_rule, plain_rule, words_rule}
+use Rattle.host_words.specs.{Options, Word, has_name, words_name, IsProper, rules, syntax, valued_rule, plain_rule, words_rule}
 
 abbrev pub built_valued : Word → Rule
 built_valued name = record (valued_rule name) { range = Some (record { start_inclusive = 1; end_inclusive = 1 }); parser = Some vp.String }

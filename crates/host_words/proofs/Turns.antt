@@ -12,8 +12,8 @@ use Rattle.clap.specs.Walk.{Held, is_pending, Row, Rule, Text, Waiting, Walk, ar
 use Rattle.clap.specs.declared.builder.value_parser.ValueParser.TheVariants as vp
 use Rattle.clap.specs.declared.error.kind.ErrorKind.TheVariants as kind
 use Rattle.clap.specs.declared.parser.matches.ValueSource.TheVariants.{CommandLine}
-use Rattle.host_words.specs.Given.{Given, Options, Word, has_name, two_hyphens, words_name}
-use Rattle.host_words.specs.Matches.{IsProper}
+use Rattle.host_words.specs.Given.{Given}
+use Rattle.host_words.specs.{Options, Word, has_name, two_hyphens, words_name, IsProper}
 use Rattle.host_words.proofs.Rules.{built_plain, built_rules, built_shape, built_valued, built_words, by_id_valued, by_id_words, by_index, by_long}
 use Rattle.host_words.proofs.WordKinds.{IsLong, IsOther, Refused}
 

@@ -5,8 +5,8 @@ use Rattle.std.proofs.lemmas.Slice.Eq.{bytes_eq-Decides}
 use Rattle.clap.specs.Faults.{settle_fault, turn_fault, walk_fault}
 use Rattle.clap.specs.Kinds.{Kinds, or_else}
 use Rattle.clap.specs.Walk.{Row, Waiting, Walk, option, positional, settled, walked}
-use Rattle.host_words.specs.Given.{Given, Kind, Options, Word, after_word, as_value, as_words, end, other, plain, joined, waits, unknown, given_after, has_name, has_short, is_short, kind_of, two_hyphens, with_value, words_name}
-use Rattle.host_words.specs.Matches.{IsProper}
+use Rattle.host_words.specs.Given.{Given}
+use Rattle.host_words.specs.{Kind, Options, Word, after_word, as_value, as_words, end, other, plain, joined, waits, unknown, given_after, has_name, has_short, is_short, kind_of, two_hyphens, with_value, words_name, IsProper}
 use Rattle.host_words.proofs.Rules.{built_rules, built_shape}
 use Rattle.host_words.proofs.Turns.{Refuses, Rest, all_added, calm, c, s, nothing, pending_of, rest_added, standing, value, value_added, word}
 use Rattle.host_words.proofs.Turns as turn

@@ -5,7 +5,8 @@ use Rattle.std.specs.Prelude.{◌==◌, option_and_then}
 use Rattle.std.specs.List.{before_first}
 use Rattle.std.specs.Str.{bytes_eq}
 use Rattle.clap.specs.Lexer.{long_of, long_of_rest, short_of, short_of_rest, strip_byte}
-use Rattle.host_words.specs.Given.{Given, Kind, Options, Word, after_hyphens, after_word, as_value, end, other, plain, joined, waits, unknown, given_after, has_name, has_short, is_short, kind_of, option_kind, two_hyphens, value_of, with_value, words_name}
+use Rattle.host_words.specs.Given.{Given}
+use Rattle.host_words.specs.{Kind, Options, Word, after_hyphens, after_word, as_value, end, other, plain, joined, waits, unknown, given_after, has_name, has_short, is_short, kind_of, option_kind, two_hyphens, value_of, with_value, words_name}
 
 -- the word is `--NAME` or `--NAME=VALUE` to `clap`
 pub record IsLong (w : Word) (name : Word) (value : Option Word) : Type 0 where

@@ -1,5 +1,6 @@
 -- The command that the words of a call name, with what they say of it.
-use Rattle.std.specs.Prelude.{ℕ, ◌==◌, Bool, if◌then◌else◌, List, [], ◌∷◌, Option, Some, None, Result, Ok, Err, ◌≡◌, length, unwrap_or, bytes_eq, codes}
+use Rattle.std.specs.Prelude.{ℕ, ◌==◌, Bool, if◌then◌else◌, List, [], ◌∷◌, Option, Some, None}
+use Rattle.std.specs.Prelude.{Result, Ok, Err, ◌≡◌, length, unwrap_or, bytes_eq, codes}
 use Rattle.host_words.specs.Given.{Given, Options, Word, given_by, values, words_name}
 use Rattle.host_words.specs.Numbers.{block_size, is_set, number, optional}
 use Rattle.host_words.specs.Steps.{◌>>=◌}
@@ -10,26 +11,34 @@ use Rattle.host_words.specs.declared.command.Command.TheVariants as command
 
 -- what a command is told
 pub data Meaning : Type 0 where
-  -- the image, the size of a block, the workers and the depth where they are given, and whether `--dry`, `--cut` and `--steps` are
+  -- the image, the size of a block, the workers and the depth where they are given, and whether
+  -- `--dry`, `--cut` and `--steps` are
   run : Word → ℕ → Option ℕ → Option ℕ → Bool → Bool → Bool → Meaning
   -- the image and the size of a block
   lists : Word → ℕ → Meaning
   -- seed, sessions, requests
   make : ℕ → ℕ → ℕ → Meaning
-  -- the image, seed, sessions, requests, the size of a block, the workers and the depth where they are given
+  -- the image, seed, sessions, requests, the size of a block, the workers and the depth where they
+  -- are given
   load : Word → ℕ → ℕ → ℕ → ℕ → Option ℕ → Option ℕ → Meaning
 
 -- of the code's type
 abbrev pub meaning_of : Command → Meaning
-meaning_of (command.Run image block workers depth dry cut steps) = run image.now block workers depth dry cut steps
+meaning_of (command.Run image block workers depth dry cut steps) =
+    run image.now block workers depth dry cut steps
 meaning_of (command.List image block) = lists image.now block
 meaning_of (command.Make seed sessions requests) = make seed sessions requests
-meaning_of (command.Load image seed sessions requests block workers depth) = load image.now seed sessions requests block workers depth
+meaning_of (command.Load image seed sessions requests block workers depth) =
+    load image.now seed sessions requests block workers depth
 
 -- the options of each command
 
 abbrev pub run_options : Options
-run_options = record { valued = codes "block" ∷ codes "workers" ∷ codes "depth" ∷ []; plain = codes "dry" ∷ codes "cut" ∷ codes "steps" ∷ [] }
+run_options =
+    record {
+      valued = codes "block" ∷ codes "workers" ∷ codes "depth" ∷ [];
+      plain = codes "dry" ∷ codes "cut" ∷ codes "steps" ∷ [];
+    }
 
 abbrev pub list_options : Options
 list_options = record { valued = codes "block" ∷ []; plain = [] }
@@ -62,8 +71,8 @@ seed_of = number 0 2147483647
 abbrev pub sessions_of : Word → Option ℕ
 sessions_of = number 1 16
 
-abbrev pub requests_of : Word → Option ℕ
-requests_of = number 1 2048
+abbrev pub requests_word : Word → Option ℕ
+requests_word = number 1 2048
 
 -- what each command makes of the values under the names
 
@@ -90,7 +99,7 @@ abbrev pub make_at : List Word → Option Meaning
 make_at (a ∷ b ∷ c ∷ []) = do
   seed ← seed_of a
   sessions ← sessions_of b
-  requests ← requests_of c
+  requests ← requests_word c
   Some (make seed sessions requests)
 make_at _ = None
 
@@ -99,7 +108,7 @@ load_at under (image ∷ a ∷ b ∷ c ∷ []) = do
   name ← named image
   seed ← seed_of a
   sessions ← sessions_of b
-  requests ← requests_of c
+  requests ← requests_word c
   block ← block_in under
   workers ← workers_in under
   depth ← depth_in under
@@ -126,15 +135,17 @@ of_command o meaning words = do
   given ← given_by o words
   meaning (under_names given)
 
--- the answer is the command of these words, of which the first is the command's own, or says that they are none
+-- the answer is the command of these words, of which the first is the command's own, or says that
+-- they are none
 abbrev pub ReadsAs : Option Meaning → Result Command WordsError → Type 0
 ReadsAs meaning (Ok c) = meaning ≡ Some (meaning_of c)
 ReadsAs meaning (Err BadWords) = meaning ≡ None
 ReadsAs meaning (Err Oom) = Unit {0}
 
-abbrev pub Reads : Options → ((Word → List Word) → Option Meaning) → List Word → Result Command WordsError → Type 0
-Reads o meaning [] r = Unit {0}
-Reads o meaning (w ∷ rest) r = ReadsAs (of_command o meaning rest) r
+abbrev pub ReadsWords : Options → ((Word → List Word) → Option Meaning) → List Word
+    → Result Command WordsError → Type 0
+ReadsWords o meaning [] r = Unit {0}
+ReadsWords o meaning (w ∷ rest) r = ReadsAs (of_command o meaning rest) r
 
 -- what the command of a name makes of the words after it
 unfoldable pub command_named : Word → List Word → Option Meaning

@@ -1,4 +1,5 @@
--- What `clap` is told of a command: each option, and one argument that takes every word of no option.
+-- What `clap` is told of a command: each option, and one argument that takes every word of no
+-- option.
 use Rattle.std.specs.Prelude.{true, List, [], ◌∷◌, ◌++◌, map, Some}
 use Rattle.clap.specs.Simple.{App, new_rule, new_shape, on_top}
 use Rattle.clap.specs.Walk.{Rule}
@@ -27,7 +28,12 @@ rules o = map valued_rule o.valued ++ (map plain_rule o.plain ++ words_rule ∷ 
 
 -- a command without help and version
 abbrev pub bare : Word → App
-bare name = record { top = record (new_shape name) { disable_help_flag = true; disable_version_flag = true }; subs = [] }
+bare name =
+    record {
+      top = record (new_shape name)
+          { disable_help_flag = true; disable_version_flag = true };
+      subs = [];
+    }
 
 abbrev pub syntax : Word → Options → App
 syntax name o = on_top (λ s. record s { rules = rules o }) (bare name)

@@ -13,7 +13,8 @@ use clap::{ArgMatches, Command, Error};
 /// What `clap` finds in the words of a command, of which the first is the command's own.
 pub fn given<'a>(command: Command<'a>, words: &'a [&'a str]) -> Result<ArgMatches<'a>, WordsError>
     requires { has_short (map (λ w. w.now) (drop 1 words.now)) ≡ false }
-    ensures { (name : Word) (o : Options) → IsProper o → app_of command.entry ≡ syntax name o → IsGiven o (map (λ w. w.now) words.entry.now) result }
+    ensures { (name : Word) (o : Options) → IsProper o → app_of command.entry ≡ syntax name o
+        → IsGiven o (map (λ w. w.now) words.entry.now) result }
 {
     match command.try_get_matches_from(words) {
         Ok(matches) => Ok(matches),

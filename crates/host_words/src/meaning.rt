@@ -1,7 +1,9 @@
 //! What each command makes of the values under its names.
 ghost use Rattle.std.specs.Prelude.{◌≡◌, option_map, option_copied};
-ghost use Rattle.host_words.specs.Commands.{block_in, depth_in, list_meaning, load_meaning, make_meaning, meaning_of, named, run_meaning, workers_in};
-ghost use Rattle.host_words.specs.Matches.{listed, texts_in};
+ghost use Rattle.host_words.specs.Commands.{block_in, depth_in, list_meaning, load_meaning};
+ghost use Rattle.host_words.specs.Commands.{make_meaning, meaning_of, named, run_meaning};
+ghost use Rattle.host_words.specs.Commands.{workers_in};
+ghost use Rattle.host_words.specs.Matches.{listed_words, texts_in};
 ghost use Rattle.host_words.specs.Numbers.{is_set, number, optional};
 
 use crate::Command;
@@ -117,7 +119,7 @@ fn depth(matches: &ArgMatches<'_>) -> Option<Option<u32>>
 
 // The value of an option that may be left out, as a number in a range.
 fn optional_number(texts: Option<&[&str]>, low: u32, high: u32) -> Option<Option<u32>>
-    ensures { result ≡ optional (number low high) (listed texts.entry) }
+    ensures { result ≡ optional (number low high) (listed_words texts.entry) }
 {
     match texts {
         None | Some([]) => Some(None),
@@ -128,7 +130,7 @@ fn optional_number(texts: Option<&[&str]>, low: u32, high: u32) -> Option<Option
 
 // Whether an option without a value stands there.
 fn is_set(texts: Option<&[&str]>) -> Option<bool>
-    ensures { result ≡ is_set (listed texts.entry) }
+    ensures { result ≡ is_set (listed_words texts.entry) }
 {
     match texts {
         None | Some([]) => Some(false),

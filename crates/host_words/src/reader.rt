@@ -1,6 +1,8 @@
 //! Reads the words of a call.
 ghost use Rattle.std.specs.Prelude.{◌≡◌, map, drop, IfOk, Err, Some, None, false};
-ghost use Rattle.host_words.specs.Commands.{command_of, list_meaning, list_options, load_meaning, load_options, make_meaning, make_options, meaning_of, run_meaning, run_options, Reads, ReadsNamed};
+ghost use Rattle.host_words.specs.Commands.{command_of, list_meaning, list_options, load_meaning};
+ghost use Rattle.host_words.specs.Commands.{load_options, make_meaning, make_options, meaning_of};
+ghost use Rattle.host_words.specs.Commands.{run_meaning, run_options, ReadsWords, ReadsNamed};
 ghost use Rattle.host_words.specs.Given.{has_short};
 ghost use Rattle.host_words.specs.declared.words_error.WordsError.TheVariants.{BadWords};
 
@@ -13,7 +15,8 @@ use std::alloc::Global;
 
 /// The command that the words after the program's name call.
 pub fn read_words<'a>(alloc: Global, words: &'a [&'a str]) -> Result<Command<'a>, WordsError>
-    ensures command { IfOk result (λ command. command_of (map (λ w. w.now) words.entry.now) ≡ Some (meaning_of command)) }
+    ensures command { IfOk result
+        (λ command. command_of (map (λ w. w.now) words.entry.now) ≡ Some (meaning_of command)) }
     ensures refused { result ≡ Err BadWords → command_of (map (λ w. w.now) words.entry.now) ≡ None }
 {
     let [name, rest @ ..] = words else {
@@ -45,7 +48,7 @@ fn read_named<'a>(
 
 fn read_run<'a>(alloc: Global, words: &'a [&'a str]) -> Result<Command<'a>, WordsError>
     requires { has_short (map (λ w. w.now) (drop 1 words.now)) ≡ false }
-    ensures { Reads run_options run_meaning (map (λ w. w.now) words.entry.now) result }
+    ensures { ReadsWords run_options run_meaning (map (λ w. w.now) words.entry.now) result }
 {
     let command = run_syntax(alloc)?;
     let matches = given(command, words)?;
@@ -57,7 +60,7 @@ fn read_run<'a>(alloc: Global, words: &'a [&'a str]) -> Result<Command<'a>, Word
 
 fn read_list<'a>(alloc: Global, words: &'a [&'a str]) -> Result<Command<'a>, WordsError>
     requires { has_short (map (λ w. w.now) (drop 1 words.now)) ≡ false }
-    ensures { Reads list_options list_meaning (map (λ w. w.now) words.entry.now) result }
+    ensures { ReadsWords list_options list_meaning (map (λ w. w.now) words.entry.now) result }
 {
     let command = list_syntax(alloc)?;
     let matches = given(command, words)?;
@@ -69,7 +72,7 @@ fn read_list<'a>(alloc: Global, words: &'a [&'a str]) -> Result<Command<'a>, Wor
 
 fn read_make<'a>(alloc: Global, words: &'a [&'a str]) -> Result<Command<'a>, WordsError>
     requires { has_short (map (λ w. w.now) (drop 1 words.now)) ≡ false }
-    ensures { Reads make_options make_meaning (map (λ w. w.now) words.entry.now) result }
+    ensures { ReadsWords make_options make_meaning (map (λ w. w.now) words.entry.now) result }
 {
     let command = make_syntax(alloc)?;
     let matches = given(command, words)?;
@@ -81,7 +84,7 @@ fn read_make<'a>(alloc: Global, words: &'a [&'a str]) -> Result<Command<'a>, Wor
 
 fn read_load<'a>(alloc: Global, words: &'a [&'a str]) -> Result<Command<'a>, WordsError>
     requires { has_short (map (λ w. w.now) (drop 1 words.now)) ≡ false }
-    ensures { Reads load_options load_meaning (map (λ w. w.now) words.entry.now) result }
+    ensures { ReadsWords load_options load_meaning (map (λ w. w.now) words.entry.now) result }
 {
     let command = load_syntax(alloc)?;
     let matches = given(command, words)?;

@@ -1,5 +1,5 @@
-//! What `clap` is told of each command. An option is taken as often as it stands there, and one argument takes every word of
-//! no option.
+//! What `clap` is told of each command. An option is taken as often as it stands there, and one
+//! argument takes every word of no option.
 ghost use Rattle.std.specs.Prelude.{◌≡◌, IfOk, codes, false};
 ghost use Rattle.clap.specs.Simple.{app_of};
 ghost use Rattle.clap.specs.Walk.{rule_of};

@@ -1,32 +1,18 @@
 -- How a client ends its session, step by step.
 use Rattle.std.proofs.Common.{◌≡◌, inl, inr, ℕ, ◌+◌, Bool, true, false, List, [], ◌∷◌, ◌++◌, length, Option, Some, None, IsSome, refl, sym, ap, ap₂, subst, ◌∙◌, arith, append-nil, append_assoc}
 use Rattle.std.proofs.lemmas.List.{map-append}
-use Rattle.host_frames.specs.declared.seat.PoolSeat.{PoolSeat}
-use Rattle.host_frames.specs.Seats.{claims, given_back, granted, seat_pool}
-use Rattle.host_hand.specs.Frames.{released_by}
+use Rattle.host_frames.specs.{PoolSeat, claims, given_back, granted, seat_pool}
+use Rattle.host_hand.specs.{released_by}
 use Rattle.host_io.specs.declared.disk.Disk as disk
-use Rattle.host_model.specs.declared.event.Event.{Event}
-use Rattle.host_model.specs.declared.event.Event.TheVariants.{Aborted, Received}
-use Rattle.host_model.specs.declared.memory.MemEntry.{MemEntry}
-use Rattle.host_model.specs.Log.{received}
-use Rattle.host_record.specs.declared.finish.Finish.{Finish}
-use Rattle.host_record.specs.declared.finish.Finish.TheVariants.{Abort, Drain}
-use Rattle.host_session.specs.Calls.{IsFinished}
-use Rattle.host_session.specs.Client.{ClientState}
-use Rattle.host_session.specs.Endings.{owed_count}
-use Rattle.host_session.specs.Closing.{IsCloseAnswer, IsClosing, IsStillOpen, closing_event, pages_in}
-use Rattle.host_session.specs.Kept.{IsClient}
-use Rattle.host_session.specs.Plan.{SessionPlan}
-use Rattle.host_turn.specs.History.{Continues}
-use Rattle.host_turn.specs.Seats.{number, seen_by}
-use Rattle.host_worker.specs.declared.hand.Hand.{Hand}
-use Rattle.host_worker.specs.declared.server.Server.{Server}
-use Rattle.host_worker.specs.Accounts.{HasWorked, HaveWorked, frames_of, released_of}
-use Rattle.host_worker.specs.Hands.{IsHandOf, with_pool_seat}
-use Rattle.host_worker.specs.Servers.{IsClientOf}
-use Rattle.host_worker.specs.Waits.{HasAborted, HasDrained, HasReceived, HasRoom, KeepsRoom, MayWait, ReceivesOwed, received_events}
+use Rattle.host_model.specs.{Event, Aborted, Received, MemEntry, received}
+use Rattle.host_record.specs.{Finish, Abort, Drain}
+use Rattle.host_session.specs.{IsFinished, ClientState, owed_count, IsCloseAnswer, IsClosing, IsStillOpen, closing_event, pages_of_ids, IsClient, SessionPlan}
+use Rattle.host_log.specs.{Continues}
+use Rattle.host_turn.specs.{number, seen_by}
+use Rattle.host_worker.specs.{Hand, Server, HasWorked, HaveWorked, frames_of, released_of, IsHandOf, with_pool_seat, IsClientOf, HasAborted, HasDrained, HasReceived, HasAnswerRoom, KeepsRoom, MayWait, ReceivesOwed, received_events}
 use Rattle.host_worker.proofs.Receiving.{owed_nothing, owed_still, owed_twice}
-use Rattle.host_worker.proofs.Released.{released_all, released_still}
+use Rattle.host_worker.proofs.Released.{released_all}
+use Rattle.host_hand.proofs.Framing.{released_still}
 use Rattle.host_worker.proofs.Shared.{client_still}
 use Rattle.host_worker.proofs.Visited.{with_seat_still}
 
@@ -56,11 +42,11 @@ even_closing : (old new : ClientState) (seat seat' : PoolSeat) → IsClient old 
 even_closing old new seat seat' k c =
     let r = c.released in
     let n : ℕ = old.plan.hands in
-    let taken : released_of new ≡ released_of old + pages_in r.found r.ids =
+    let taken : released_of new ≡ released_of old + pages_of_ids r.found r.ids =
     ap (λ (p : SessionPlan). released_by p.hands (seen_by new.memory_seat)) (ap (λ (s : ClientState). s.plan) c.left)
     ∙ (ap (λ (h : List MemEntry). released_by n h) r.visit.left
     ∙ (released_all n r.found r.ids
-    ∙ ap (λ (m : ℕ). m + pages_in r.found r.ids) (continues_client old k r.found r.visit.later))) in
+    ∙ ap (λ (m : ℕ). m + pages_of_ids r.found r.ids) (continues_client old k r.found r.visit.later))) in
     record {
       pool = (r.home.pool, r.home.claims, r.home.granted);
       frames = omega (arith, taken, r.home.given_back);
@@ -135,7 +121,7 @@ pub told_released : (how : Finish) (old new : ClientState) → IsFinished how ol
 told_released how old new f = ap released_of f.left
 
 pub told_room : (old new : ClientState) → IsFinished Drain old new → KeepsRoom old new
-told_room old new f more h = subst (λ (s : ClientState). HasRoom more s) (sym f.left) (subst (λ (l : List Event). HasRoom more (record old { log = l })) (sym (append-nil old.log)) h)
+told_room old new f more h = subst (λ (s : ClientState). HasAnswerRoom more s) (sym f.left) (subst (λ (l : List Event). HasAnswerRoom more (record old { log = l })) (sym (append-nil old.log)) h)
 
 -- it received answers
 pub ending_received : (answers : List (List ℕ)) (old mid new : ClientState) → IsEnding Drain (received_events answers) old mid → (r : HasReceived mid new) → IsEnding Drain (received_events (answers ++ r.answers)) old new
@@ -160,7 +146,7 @@ ending_open how more old mid new seat seat' e a = record {
 }
 
 pub open_room : (mid new : ClientState) (seat seat' : PoolSeat) → IsCloseAnswer mid new seat seat' false → KeepsRoom mid new
-open_room mid new seat seat' a more h = subst (λ (s : ClientState). HasRoom more s) (sym a.1.left) h
+open_room mid new seat seat' a more h = subst (λ (s : ClientState). HasAnswerRoom more s) (sym a.1.left) h
 
 -- it was closed
 pub record IsEndedBy (how : Finish) (more : List Event) (old new : ClientState) : Type 0 where
@@ -225,7 +211,7 @@ module _ {D : Type 0} {g : disk.Ghosts D} (server : Server D g) (hand : Hand D g
   pub record IsDrainingWith (hand' : Hand D g) (client' : ClientState) : Type 0 where
     pub hand_is : IsHandOf server hand'
     pub worked : HaveWorked hand hand' client client'
-    pub room : HasRoom 0 client'
+    pub room : HasAnswerRoom 0 client'
     pub draining : IsDraining client client'
 
   -- the same of an abort

@@ -4,38 +4,20 @@ use Rattle.std.proofs.lemmas.List.{length-map, length-reverse, length-set, rever
 use Rattle.std.specs.Prelude.{slice_get}
 use Rattle.std.specs.declared.alloc.Global.{Global}
 use Rattle.std.proofs.lemmas.Option.{none-some, same_Some, slice_get_within}
-use Rattle.host_session.specs.declared.hand.SessionHand.{SessionHand}
-use Rattle.host_session.specs.Client.{ClientState}
-use Rattle.host_session.specs.Plan.{IsFresh, IsHand}
-use Rattle.host_worker.specs.declared.session.Session.{Session}
-use Rattle.host_worker.specs.Servers.{plan_of}
-use Rattle.host_worker.specs.Shares.{HasHands, HasOneMore, HaveOneMore, IsNewShare, openings_of, specs_of}
-use Rattle.host_worker.specs.Starts.{AreDealt, HasGiven}
+use Rattle.host_session.specs.{SessionHand, ClientState, IsFreshHand, IsHand}
+use Rattle.host_worker.specs.{Session, plan_of_session, HasHands, HasOneMore, HaveOneMore, IsNewShare, openings_of, specs_of, AreSharesDealt, HasGiven}
 use Rattle.host_worker.proofs.Lists.{at_place, each_place, map_from, set_elsewhere, set_here}
 use Rattle.host_worker.proofs.Places.{from_above, none_plus, one_less, plus_none, positive, reflexive, shift, unlike_above, unlike_below, within_equal}
+use Rattle.host_log.proofs.Places.{some_at, get_last, stands_append, get_snoc}
 
 -- ---- lists
 
 -- an element stands where it stood, and the next one behind
 pub before_end : {A : Type 0} (xs : List A) (y x : A) (k : ℕ) → slice_get xs k ≡ Some x → slice_get (xs ++ y ∷ []) k ≡ Some x
-before_end [] y x k at = absurd (cc at)
-before_end (a ∷ xs) y x zero at = at
-before_end (a ∷ xs) y x (suc k) at = before_end xs y x k at
-
-pub at_end : {A : Type 0} (xs : List A) (y : A) → slice_get (xs ++ y ∷ []) (length xs) ≡ Some y
-at_end [] y = refl
-at_end (a ∷ xs) y = at_end xs y
-
-pub some_at : {A : Type 0} (xs : List A) (k : ℕ) → k < length xs → (x : A) × (slice_get xs k ≡ Some x)
-some_at [] k less = absurd (omega (arith, less))
-some_at (a ∷ xs) zero less = (a, refl)
-some_at (a ∷ xs) (suc k) less = some_at xs k (omega (arith, less))
+before_end xs y x k at = stands_append xs (y ∷ []) k x at
 
 pub from_end : {A : Type 0} (xs : List A) (y x : A) (k : ℕ) → slice_get (xs ++ y ∷ []) k ≡ Some x → (slice_get xs k ≡ Some x) ⊎ ((k ≡ length xs) × (x ≡ y))
-from_end [] y x zero at = inr (refl, cc at)
-from_end [] y x (suc k) at = absurd (cc at)
-from_end (a ∷ xs) y x zero at = inl at
-from_end (a ∷ xs) y x (suc k) at = elim (from_end xs y x k at) [ inl b ↦ inl b | inr b ↦ inr (ap suc b.0, b.1) ]
+from_end xs y x k at = elim (get_snoc xs y x k at) [ inl b ↦ inl b | inr b ↦ inr (b.0, sym b.1) ]
 
 -- two lists that agree at each place give the same
 pub map_same : {A B : Type 0} (f : A → B) (xs ys : List A) → length xs ≡ length ys → ((k : ℕ) (x y : A) → slice_get xs k ≡ Some x → slice_get ys k ≡ Some y → f x ≡ f y) → map f xs ≡ map f ys
@@ -80,10 +62,10 @@ module _ (less more : List Session) (share : List SessionHand) (d : HaveOneMore 
         let m = one_more k s b.0 at b.1 in
         one_fewer s b.0 m.0 m.2 (at_place (HasHands (left + 1)) more k b.0 full b.1))
 
-    last_one : (s s' : Session) (h : SessionHand) → HasOneMore s s' h → HasHands (left + 1) s' → IsHand (plan_of s') left h × IsFresh h
+    last_one : (s s' : Session) (h : SessionHand) → HasOneMore s s' h → HasHands (left + 1) s' → IsHand (plan_of_session s') left h × IsFreshHand h
     last_one s s' h m f =
         let n : length s.hands.items ≡ left = one_less (length s.hands.items) (length s'.hands.items) left f.count (ap length m.hands ∙ length-append s.hands.items (h ∷ [])) in
-        f.each left h (ap (λ (l : List SessionHand). slice_get l left) m.hands ∙ subst (λ (k : ℕ). slice_get (s.hands.items ++ h ∷ []) k ≡ Some h) n (at_end s.hands.items h))
+        f.each left h (ap (λ (l : List SessionHand). slice_get l left) m.hands ∙ subst (λ (k : ℕ). slice_get (s.hands.items ++ h ∷ []) k ≡ Some h) n (get_last s.hands.items h))
 
     pub is_share : IsNewShare (openings_of more) left share
     is_share = record {
@@ -92,7 +74,7 @@ module _ (less more : List Session) (share : List SessionHand) (d : HaveOneMore 
           let b = map_from (λ (s : Session). s.opened.value) more k c at in
           let a = some_at less k (within_equal k (length more) (length less) (slice_get_within more k b.0 b.1) (sym d.count.0)) in
           let m = d.each k a.0 b.0 h a.1 b.1 here in
-          subst (λ (x : ClientState). IsHand x.plan left h × IsFresh h) (sym b.2) (last_one a.0 b.0 h m (at_place (HasHands (left + 1)) more k b.0 full b.1));
+          subst (λ (x : ClientState). IsHand x.plan left h × IsFreshHand h) (sym b.2) (last_one a.0 b.0 h m (at_place (HasHands (left + 1)) more k b.0 full b.1));
     }
 
 -- ---- one session after another
@@ -171,7 +153,7 @@ dealt_more left old mid new shares share d m = record {
         subst (λ (k : ℕ). IsNewShare (openings_of old) k x.items) plain (d.shares_are n x at)
 
 -- all are dealt out
-pub dealt_all : (hands left : ℕ) (old new : List Session) (shares : List (Vec SessionHand Global)) → left ≡ 0 → length shares ≡ hands → AreDealtFrom left old new shares → AreDealt hands old new (reverse shares)
+pub dealt_all : (hands left : ℕ) (old new : List Session) (shares : List (Vec SessionHand Global)) → left ≡ 0 → length shares ≡ hands → AreDealtFrom left old new shares → AreSharesDealt hands old new (reverse shares)
 dealt_all hands left old new shares none count d =
     let e = subst (λ (n : ℕ). AreDealtFrom n old new shares) none d in
     record {

@@ -5,36 +5,18 @@ use Rattle.std.specs.List.{cons_option, list_any}
 use Rattle.std.proofs.lemmas.List.{length-map}
 use Rattle.std.proofs.lemmas.List.Sums.{sum_by-cons}
 use Rattle.std.proofs.lemmas.Option.{slice_get-get_or, slice_get_within}
-use Rattle.host_device.specs.declared.device.Device.{Device}
-use Rattle.host_device.specs.declared.fixed.DeviceFixed.{DeviceFixed}
-use Rattle.host_device.specs.Seen.{fixed_of, shape_of, steps_of}
-use Rattle.host_frames.specs.declared.seat.PoolSeat.{PoolSeat}
-use Rattle.host_frames.specs.Seats.{SomeSeatRefused, asked, frame_count, given_back, granted}
-use Rattle.host_frames.specs.Sums.{total}
-use Rattle.host_hand.specs.Frames.{frames_out}
-use Rattle.host_hand.specs.Kept.{KeepsSession}
+use Rattle.host_device.specs.{Device, DeviceFixed, fixed_of, shape_of, steps_of}
+use Rattle.host_frames.specs.{PoolSeat, SomeSeatRefused, frames_asked, frame_count, given_back, granted}
+use Rattle.host_log.specs.{total, Continues, entries_of}
+use Rattle.host_hand.specs.{frames_out, KeepsSession}
 use Rattle.host_io.specs.declared.disk.Disk as disk
-use Rattle.host_model.specs.declared.event.Event.{Event}
-use Rattle.host_model.specs.declared.step.Step.{Step}
-use Rattle.host_report.specs.declared.session.SessionReport.{SessionReport}
-use Rattle.host_report.specs.Lawful.{is_short_of_frames, pages_asked, pages_asked_by, ran_short}
-use Rattle.host_session.specs.declared.hand.SessionHand.{SessionHand}
-use Rattle.host_session.specs.Client.{ClientState}
-use Rattle.host_session.specs.Plan.{AreAllHands, IsHand, IsShared, SessionPlan}
-use Rattle.host_session.specs.Whole.{IsWhole}
-use Rattle.host_turn.specs.declared.seat.BookSeat.{BookSeat}
-use Rattle.host_turn.specs.History.{Continues, entries_of}
-use Rattle.host_turn.specs.Seats.{number, opening_of, seen_by}
+use Rattle.host_model.specs.{Event, Step}
+use Rattle.host_report.specs.{SessionReport, is_short_of_frames, pages_asked, pages_asked_by, ran_short}
+use Rattle.host_session.specs.{SessionHand, ClientState, AreAllHands, IsHand, IsShared, SessionPlan, IsSessionWhole}
+use Rattle.host_turn.specs.{BookSeat, number, opening_of, seen_by}
 use Rattle.crossbeam_utils.specs.Padded.{padded_value}
-use Rattle.host_worker.specs.declared.hand.Hand.{Hand}
-use Rattle.host_worker.specs.declared.server.Server.{Server}
-use Rattle.host_worker.specs.declared.session.Session.{Session}
-use Rattle.host_worker.specs.Accounts.{AreAccounted, frames_of, pages_wanted, pool_seats_of}
-use Rattle.host_worker.specs.Ends.{AreEnded, HandEnd, IsSessionEnd, IsStory, ends_seen, frames_by, frames_from, hand_end, shares_in}
-use Rattle.host_worker.specs.Finishes.{AreBack, AreClosed, AreHands, AreSessionsEnded, AreToEnd, parts_in}
-use Rattle.host_worker.specs.Hands.{AreNamed}
-use Rattle.host_worker.specs.Servers.{IsServer, block_size, keeps_of, plan_of, shared_of}
-use Rattle.host_worker.proofs.Dealt.{some_at}
+use Rattle.host_worker.specs.{Hand, Server, Session, AreAccounted, frames_of, pages_wanted, pool_seats_of, AreEnded, HandEnd, IsSessionEnd, IsStory, ends_seen, frames_by, frames_from, hand_end, shares_in, AreBack, AreClosed, AreHands, AreSessionsEnded, AreToEnd, parts_in, AreNamed, IsServer, block_size, keeps_of, plan_of_session, shared_of}
+use Rattle.host_log.proofs.Places.{some_at}
 use Rattle.host_worker.proofs.Lists.{at_place, each_place, map_at, map_from}
 use Rattle.host_worker.proofs.Taking.{all_parts, part_at}
 
@@ -64,13 +46,13 @@ module _ {D : Type 0} {g : disk.Ghosts D} where
     parts_there : (k : ℕ) → k < length server.sessions.items → All (λ (hand : Hand D g). k < length hand.sessions.items) hands
     parts_there k less = each_place (λ (hand : Hand D g). k < length hand.sessions.items) hands (λ n hand at. let o = own.each n hand at in omega (arith, less, o.1.count))
 
-    plan_at : (k : ℕ) (s : Session) (c : ClientState) → slice_get server.sessions.items k ≡ Some s → slice_get clients k ≡ Some c → c.plan ≡ plan_of s
+    plan_at : (k : ℕ) (s : Session) (c : ClientState) → slice_get server.sessions.items k ≡ Some s → slice_get clients k ≡ Some c → c.plan ≡ plan_of_session s
     plan_at k s c at at' =
-        let e : Some c.plan ≡ Some (plan_of s) = sym (map_at (λ (x : ClientState). x.plan) clients k c at') ∙ (ap (λ (l : List SessionPlan). slice_get l k) shut.plans ∙ map_at plan_of server.sessions.items k s at) in
+        let e : Some c.plan ≡ Some (plan_of_session s) = sym (map_at (λ (x : ClientState). x.plan) clients k c at') ∙ (ap (λ (l : List SessionPlan). slice_get l k) shut.plans ∙ map_at plan_of_session server.sessions.items k s at) in
         cc e
 
     client_count : length clients ≡ length server.sessions.items
-    client_count = sym (length-map clients (λ (x : ClientState). x.plan)) ∙ (ap length shut.plans ∙ length-map server.sessions.items plan_of)
+    client_count = sym (length-map clients (λ (x : ClientState). x.plan)) ∙ (ap length shut.plans ∙ length-map server.sessions.items plan_of_session)
 
     size_at : (k : ℕ) (c : ClientState) → slice_get clients k ≡ Some c → c.plan.spec.size ≡ block_size server
     size_at k c here =
@@ -94,7 +76,7 @@ module _ {D : Type 0} {g : disk.Ghosts D} where
               let x = part_at k hands there n h found in
               let o = own.each n x.0 x.1 in
               let part = o.1.each k s h at x.2 in
-              subst (λ (q : SessionPlan). IsHand q n h) (sym p) (subst (λ (j : ℕ). IsHand (plan_of s) j h) o.0 part.hand),
+              subst (λ (q : SessionPlan). IsHand q n h) (sym p) (subst (λ (j : ℕ). IsHand (plan_of_session s) j h) o.0 part.hand),
         )
 
     pub to_end : AreToEnd (keeps_of server) sessions clients
@@ -107,7 +89,7 @@ module _ {D : Type 0} {g : disk.Ghosts D} where
           let r = running.sessions k s.0 s.1 in
           record {
             spec = ap (λ (q : SessionPlan). q.spec) p ∙ (r.spec ∙ sym e.0);
-            shared = subst (λ (q : SessionPlan). IsShared q (shared_of s')) (sym p) (subst (λ x. IsShared (plan_of s.0) (padded_value x)) (sym e.1) r.shared);
+            shared = subst (λ (q : SessionPlan). IsShared q (shared_of s')) (sym p) (subst (λ x. IsShared (plan_of_session s.0) (padded_value x)) (sym e.1) r.shared);
             hands = all_hands k s.0 s' c s.1 at' here;
             closed = at_place (λ (x : ClientState). x.closed ≡ true) clients k c shut.closed here;
             keeps_is = ap (λ (q : SessionPlan). q.spec.keeps) p ∙ (ap (λ x. x.keeps) r.spec ∙ r.keeps_is);
@@ -143,12 +125,12 @@ module _ {D : Type 0} {g : disk.Ghosts D} where
                 let w = map_from hand_end hands n x at in
                 let o = own.each n w.0 w.1 in
                 subst (λ (y : HandEnd). k < length y.shares) (sym w.2) (omega (arith, o.1.count, slice_get_within server.sessions.items k s.0 s.1));
-            whole = subst (λ (l : List SessionHand). IsWhole c l e.log.items e.taken.items e.memory.items) are d.whole;
+            whole = subst (λ (l : List SessionHand). IsSessionWhole c l e.log.items e.taken.items e.memory.items) are d.whole;
             kept = λ n x h at at'.
                 let w = map_from hand_end hands n x at in
                 let o = own.each n w.0 w.1 in
                 let part = o.1.each k s.0 h s.1 (ap (λ (y : HandEnd). slice_get y.shares k) (sym w.2) ∙ at') in (
-                  subst (λ (q : SessionPlan). IsHand q n h) (sym p) (subst (λ (j : ℕ). IsHand (plan_of s.0) j h) o.0 part.hand),
+                  subst (λ (q : SessionPlan). IsHand q n h) (sym p) (subst (λ (j : ℕ). IsHand (plan_of_session s.0) j h) o.0 part.hand),
                   subst (λ (y : HandEnd). KeepsSession c.plan.spec n h y.steps) (sym w.2)
                       (subst (λ q. KeepsSession q n h (seen_by w.0.device_seat)) (sym spec) (subst (λ (j : ℕ). KeepsSession s.0.spec j h (seen_by w.0.device_seat)) o.0 part.keeps)),
                 );
@@ -209,7 +191,7 @@ module _ {D : Type 0} {g : disk.Ghosts D} where
       → All (λ q. Continues (λ (step : Step). step.hand) (number q) (seen_by q) story) (map (λ (hand : Hand D g). hand.device_seat) hands)
       → ((n : ℕ) → All (λ q. number q ≢ n) (map (λ (hand : Hand D g). hand.device_seat) hands) → entries_of (λ (step : Step). step.hand) n story ≡ entries_of (λ (step : Step). step.hand) n (steps_of (opening_of server.device)).items)
       → home + total granted (pool_seats_of hands) ≡ 4096 + total given_back (pool_seats_of hands)
-      → (SomeSeatRefused 4096 (pool_seats_of hands) → 4096 < total asked (pool_seats_of hands))
+      → (SomeSeatRefused 4096 (pool_seats_of hands) → 4096 < total frames_asked (pool_seats_of hands))
       → AreEnded clients (map hand_end hands) (record { sessions = reports; keeps = keeps; frames_home = home; story = story; size = size })
   all_ended server running hands own clients shut sessions back accounted reports keeps ended story home size size_is seats others homes refused =
       let logs = logs_are server running hands own clients shut sessions back reports ended in
@@ -241,7 +223,7 @@ module _ {D : Type 0} {g : disk.Ghosts D} where
       → All (λ q. Continues (λ (step : Step). step.hand) (number q) (seen_by q) (steps_of device).items) device_seats
       → ((n : ℕ) → All (λ q. number q ≢ n) device_seats → entries_of (λ (step : Step). step.hand) n (steps_of device).items ≡ entries_of (λ (step : Step). step.hand) n (steps_of (opening_of server.device)).items)
       → home + total granted pool_seats ≡ frame_count server.pool + total given_back pool_seats
-      → (SomeSeatRefused (frame_count server.pool) pool_seats → frame_count server.pool < total asked pool_seats)
+      → (SomeSeatRefused (frame_count server.pool) pool_seats → frame_count server.pool < total frames_asked pool_seats)
       → AreEnded clients (map hand_end hands) (ends_seen reports keeps home (steps_of device).items (shape_of device).size)
   finished server running hands own clients shut sessions back accounted reports keeps ended device home device_seats pool_seats d_are p_are fixed seats others homes refused =
       let frames : frame_count server.pool ≡ 4096 = running.pool.0 in
@@ -250,4 +232,4 @@ module _ {D : Type 0} {g : disk.Ghosts D} where
       (subst (λ l. All (λ q. Continues (λ (step : Step). step.hand) (number q) (seen_by q) (steps_of device).items) l) d_are seats)
       (λ n all. others n (subst (λ l. All (λ q. number q ≢ n) l) (sym d_are) all))
       (subst (λ (l : List PoolSeat). home + total granted l ≡ 4096 + total given_back l) p_are (homes ∙ ap (λ (n : ℕ). n + total given_back pool_seats) frames))
-      (subst (λ (l : List PoolSeat). SomeSeatRefused 4096 l → 4096 < total asked l) p_are (subst (λ (n : ℕ). SomeSeatRefused n pool_seats → n < total asked pool_seats) frames refused))
+      (subst (λ (l : List PoolSeat). SomeSeatRefused 4096 l → 4096 < total frames_asked l) p_are (subst (λ (n : ℕ). SomeSeatRefused n pool_seats → n < total frames_asked pool_seats) frames refused))

@@ -6,18 +6,9 @@ use Rattle.std.proofs.lemmas.List.{map-append, take_all, take_more}
 use Rattle.std.proofs.lemmas.List.Elements.{All-nil, All-push}
 use Rattle.std.proofs.lemmas.Option.{get_or_from_slice_get, slice_get_within}
 use Rattle.atomic_table.specs.Seated.{TableId}
-use Rattle.host_session.specs.declared.hand.SessionHand.{SessionHand}
-use Rattle.host_session.specs.declared.shared.SessionShared.{SessionShared}
-use Rattle.host_session.specs.declared.spec.SessionSpec.{SessionSpec}
-use Rattle.host_session.specs.Client.{ClientState}
-use Rattle.host_session.specs.Opened.{IsNewClient, IsOpened}
+use Rattle.host_session.specs.{SessionHand, SessionShared, SessionSpec, ClientState, IsNewClient, IsSessionOpened, IsFreshHand, IsHand, IsShared}
 use Rattle.crossbeam_utils.specs.Padded.{padded_value}
-use Rattle.host_session.specs.Plan.{IsFresh, IsHand, IsShared}
-use Rattle.host_worker.specs.declared.prepare.Opened.{Opened}
-use Rattle.host_worker.specs.declared.session.Session.{Session}
-use Rattle.host_worker.specs.Servers.{plan_of, shared_of}
-use Rattle.host_worker.specs.Shares.{AreOpenedFor, HasHands, IsOpenedFor, openings_of, specs_of}
-use Rattle.host_worker.specs.Starts.{AreDealt, AreOpened, AreShares, HasOpened}
+use Rattle.host_worker.specs.{Opened, Session, plan_of_session, shared_of, AreOpenedFor, HasHands, IsSessionOpenedFor, openings_of, specs_of, AreSharesDealt, AreOpened, AreShares, HasOpened}
 use Rattle.host_worker.proofs.Dealt.{from_end}
 use Rattle.host_worker.proofs.Lists.{at_place, each_place, map_at, map_from}
 
@@ -54,15 +45,15 @@ opened_more specs k hands pool spec old new at a h = record {
   sessions = λ j s here. one j s (from_end old.sessions.items h.session s j (ap (λ (l : List Session). slice_get l j) (sym h.sessions_are) ∙ here));
 }
   where
-    one : (j : ℕ) (s : Session) → (slice_get old.sessions.items j ≡ Some s) ⊎ ((j ≡ length old.sessions.items) × (s ≡ h.session)) → IsOpenedFor hands hands pool s
+    one : (j : ℕ) (s : Session) → (slice_get old.sessions.items j ≡ Some s) ⊎ ((j ≡ length old.sessions.items) × (s ≡ h.session)) → IsSessionOpenedFor hands hands pool s
     one j s (inl here) = a.sessions j s here
-    one j s (inr last) = subst (λ (x : Session). IsOpenedFor hands hands pool x) (sym last.1) h.opened
+    one j s (inr last) = subst (λ (x : Session). IsSessionOpenedFor hands hands pool x) (sym last.1) h.opened
 
 pub opened_all : (specs : List SessionSpec) (hands : ℕ) (pool : TableId × ℕ) (opened : Opened) → AreOpened (take (length specs) specs) hands hands pool opened → AreOpened specs hands hands pool opened
 opened_all specs hands pool opened a = subst (λ (l : List SessionSpec). AreOpened l hands hands pool opened) (take_all (length specs) specs (omega arith)) a
 
 -- a session that was just opened
-pub is_opened : (spec : SessionSpec) (hands : ℕ) (pool : TableId × ℕ) (s : Session) (shared : SessionShared) (client : ClientState) → IsOpened spec hands pool shared client s.hands.items → s.spec ≡ spec → s.opened.value ≡ client → shared_of s ≡ shared → IsOpenedFor hands hands pool s
+pub is_opened : (spec : SessionSpec) (hands : ℕ) (pool : TableId × ℕ) (s : Session) (shared : SessionShared) (client : ClientState) → IsSessionOpened spec hands pool shared client s.hands.items → s.spec ≡ spec → s.opened.value ≡ client → shared_of s ≡ shared → IsSessionOpenedFor hands hands pool s
 is_opened spec hands pool s shared client o is named shares = record {
   spec = ap (λ (c : ClientState). c.plan.spec) named ∙ (o.plan.0 ∙ sym is);
   plan = (ap (λ (c : ClientState). c.plan.hands) named ∙ o.plan.1, ap (λ (c : ClientState). c.plan.pool) named ∙ o.plan.2);
@@ -71,7 +62,7 @@ is_opened spec hands pool s shared client o is named shares = record {
     count = o.dealt.0 ∙ o.plan.1;
     each = λ k h at.
         let d = at_each k h at in
-        (subst (λ (c : ClientState). IsHand c.plan k h) (sym named) d, at_place IsFresh s.hands.items k h o.fresh at);
+        (subst (λ (c : ClientState). IsHand c.plan k h) (sym named) d, at_place IsFreshHand s.hands.items k h o.fresh at);
   };
   room = omega (arith, o.dealt.0, o.plan.1, s.hands.ok.0, s.hands.ok.1);
 }
@@ -104,7 +95,7 @@ still_opened hands pool old new o specs openings shared room empty k s at =
     record {
       spec = ap (λ (c : ClientState). c.plan.spec) named ∙ (w.spec ∙ sym l.2);
       plan = (ap (λ (c : ClientState). c.plan.hands) named ∙ w.plan.0, ap (λ (c : ClientState). c.plan.pool) named ∙ w.plan.1);
-      shared = subst (λ (c : ClientState). IsShared c.plan (shared_of s)) (sym named) (subst (λ x. IsShared (plan_of l.0) (padded_value x)) (sym shares) w.shared);
+      shared = subst (λ (c : ClientState). IsShared c.plan (shared_of s)) (sym named) (subst (λ x. IsShared (plan_of_session l.0) (padded_value x)) (sym shares) w.shared);
       dealt = at_place (HasHands 0) new k s empty at;
       room = omega (arith, w.room, rooms);
     }
@@ -114,7 +105,7 @@ module _ (specs : List SessionSpec) (hands : ℕ) (pool : TableId × ℕ) (opene
   pub all_there : All (HasHands hands) opened.sessions.items
   all_there = each_place (HasHands hands) opened.sessions.items (λ k s at. let o = a.sessions k s at in o.dealt)
 
-  module _ (sessions : Vec Session Global) (shares : List (Vec SessionHand Global)) (d : AreDealt hands opened.sessions.items sessions.items shares) where
+  module _ (sessions : Vec Session Global) (shares : List (Vec SessionHand Global)) (d : AreSharesDealt hands opened.sessions.items sessions.items shares) where
     -- the sessions, all dealt out
     pub opened_still : AreOpened specs hands 0 pool (record opened { sessions = sessions })
     opened_still = record {

@@ -2,22 +2,15 @@
 use Rattle.std.proofs.Common.{filter, filter_map, append-nil, ◌≡◌, inl, inr, ℕ, ◌+◌, ◌-◌, max, ◌<◌, ◌≤◌, not, List, [], ◌∷◌, ◌++◌, length, map, Option, Some, None, Ok, refl, sym, ap, subst, ◌∙◌, arith, append_assoc, length-append}
 use Rattle.std.proofs.lemmas.List.{length-map, map-append}
 use Rattle.std.proofs.lemmas.List.Elements.{filter_map-append}
-use Rattle.host_model.specs.declared.event.Event.{Event}
-use Rattle.host_model.specs.declared.event.Event.TheVariants.{Received, Sent}
-use Rattle.host_model.specs.Groups.{owed}
-use Rattle.host_model.specs.Lists.{count}
-use Rattle.host_model.specs.Log.{received, received_bytes, requests, sent, sent_bytes}
-use Rattle.host_model.specs.Taking.{is_end}
+use Rattle.host_model.specs.{Event, Received, Sent, owed, count, received, received_bytes, requests, sent, sent_bytes, is_end}
 use Rattle.host_record.specs.declared.response.Response.{Response}
-use Rattle.host_record.specs.Request.{request_of}
-use Rattle.host_rings.specs.AnswerEnds.{SlipTakerState}
-use Rattle.host_session.specs.declared.fronts.Fronts.{Fronts}
-use Rattle.host_session.specs.Calls.{IsReceived, IsRecvAnswer, IsSendAnswer}
-use Rattle.host_session.specs.Client.{ClientState, room_left}
-use Rattle.host_session.specs.Endings.{owed_count}
+use Rattle.host_record.specs.{request_of}
+use Rattle.host_rings.specs.{SlipTakerState}
+use Rattle.host_session.specs.{Fronts, IsReceived, IsRecvAnswer, IsSendAnswer, ClientState, room_left, owed_count}
 use Rattle.host_session.proofs.Requests.{owed_few}
-use Rattle.host_session.proofs.Snoc.{filter_one, found_none, found_one}
-use Rattle.host_worker.specs.Waits.{HasReceived, HasRoom, KeepsRoom, KeepsRoomBut, ReceivesOwed, received_events}
+use Rattle.host_session.proofs.Snoc.{found_none, found_one}
+use Rattle.host_memory.proofs.Pushed.{filter_add}
+use Rattle.host_worker.specs.{HasReceived, HasAnswerRoom, KeepsRoom, KeepsRoomBut, ReceivesOwed, received_events}
 
 -- ---- what is owed
 
@@ -102,18 +95,18 @@ received_none old new r = elim r [
 
 room_none : (old new : ClientState) → IsRecvAnswer old new None → KeepsRoom old new
 room_none old new r = elim r [
-  | inl a ↦ λ more h. subst (λ (s : ClientState). HasRoom more s) (sym a.1) h
-  | inr b ↦ λ more h. subst (λ (s : ClientState). HasRoom more s) (sym b.1.left) h
+  | inl a ↦ λ more h. subst (λ (s : ClientState). HasAnswerRoom more s) (sym a.1) h
+  | inr b ↦ λ more h. subst (λ (s : ClientState). HasAnswerRoom more s) (sym b.1.left) h
 ]
 
 one_less : (log : List Event) (bytes : List ℕ) → count (λ e. not (is_end e)) (log ++ Received bytes ∷ []) ≡ count (λ e. not (is_end e)) log + 1
-one_less log bytes = ap length (filter_one (λ e. not (is_end e)) log (Received bytes) refl) ∙ length-append (filter (λ e. not (is_end e)) log) (Received bytes ∷ [])
+one_less log bytes = ap length (filter_add (λ e. not (is_end e)) log (Received bytes) refl) ∙ length-append (filter (λ e. not (is_end e)) log) (Received bytes ∷ [])
 
 pub room_one : (old new : ClientState) (response : Response) → length (received old.log) < length (sent old.log) → IsReceived old new response → KeepsRoom old new
 room_one old new response due r more h =
     let log = old.log ++ Received r.slip.bytes ∷ [] in
     let still : length (sent log) ≡ length (sent old.log) = ap length (found_none sent_bytes old.log (Received r.slip.bytes) refl) in
-    subst (λ (s : ClientState). HasRoom more s) (sym r.left)
+    subst (λ (s : ClientState). HasAnswerRoom more s) (sym r.left)
     (room_after (length (sent old.log)) (length (received old.log)) old.plan.spec.events (count (λ e. not (is_end e)) old.log) more _ _ _ still (one_more old.log r.slip.bytes) (one_less old.log r.slip.bytes) due h)
   where
     room_after : (a b e n more a' b' n' : ℕ) → a' ≡ a → b' ≡ b + 1 → n' ≡ n + 1 → b < a → (a - b) + more ≤ e - n → (a' - b') + more ≤ e - n'
@@ -135,8 +128,8 @@ room_sent old mid new bytes index keeps s more h =
     let log = mid.log ++ Sent index bytes ∷ [] in
     let more_sent : length (sent log) ≡ length (sent mid.log) + 1 = ap length (found_one sent_bytes mid.log (Sent index bytes) bytes refl) ∙ length-append (sent mid.log) (bytes ∷ []) in
     let same : length (received log) ≡ length (received mid.log) = ap length (found_none received_bytes mid.log (Sent index bytes) refl) in
-    let used : count (λ e. not (is_end e)) log ≡ count (λ e. not (is_end e)) mid.log + 1 = ap length (filter_one (λ e. not (is_end e)) mid.log (Sent index bytes) refl) ∙ length-append (filter (λ e. not (is_end e)) mid.log) (Sent index bytes ∷ []) in
-    subst (λ (s' : ClientState). HasRoom more s') (sym s.2) (room_after (length (sent mid.log)) (length (received mid.log)) mid.plan.spec.events (count (λ e. not (is_end e)) mid.log) more _ _ _ more_sent same used m)
+    let used : count (λ e. not (is_end e)) log ≡ count (λ e. not (is_end e)) mid.log + 1 = ap length (filter_add (λ e. not (is_end e)) mid.log (Sent index bytes) refl) ∙ length-append (filter (λ e. not (is_end e)) mid.log) (Sent index bytes ∷ []) in
+    subst (λ (s' : ClientState). HasAnswerRoom more s') (sym s.2) (room_after (length (sent mid.log)) (length (received mid.log)) mid.plan.spec.events (count (λ e. not (is_end e)) mid.log) more _ _ _ more_sent same used m)
   where
     room_after : (a b e n more a' b' n' : ℕ) → a' ≡ a + 1 → b' ≡ b → n' ≡ n + 1 → (a - b) + (more + 2) ≤ e - n → (a' - b') + more ≤ e - n'
     room_after a b e n more a' b' n' p q r h = omega arith
@@ -144,7 +137,7 @@ room_sent old mid new bytes index keeps s more h =
 -- ---- a send through a full ring
 
 -- a client that only received has as many records sent, and may still wait
-pub may_send : (old mid : ClientState) → KeepsRoom old mid → HasRoom 1 old → 1 ≤ room_left mid
+pub may_send : (old mid : ClientState) → KeepsRoom old mid → HasAnswerRoom 1 old → 1 ≤ room_left mid
 may_send old mid keeps h = let m = keeps 1 h in omega (arith, m)
 
 pub records_still : (old mid : ClientState) → HasReceived old mid → length (sent mid.log) ≡ length (sent old.log)
@@ -154,5 +147,5 @@ pub plan_still : (old mid : ClientState) → HasReceived old mid → mid.plan �
 plan_still old mid r = ap (λ (s : ClientState). s.plan) r.left
 
 -- there is room for an answer that is owed
-pub may_receive : (s : ClientState) → length (received s.log) < owed_count s.log → HasRoom 0 s → 1 ≤ room_left s
+pub may_receive : (s : ClientState) → length (received s.log) < owed_count s.log → HasAnswerRoom 0 s → 1 ≤ room_left s
 may_receive s due h = omega (arith, due, h, owed_within s.log)

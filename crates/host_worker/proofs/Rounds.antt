@@ -1,16 +1,15 @@
 -- What a hand found at some sessions, with one visit more, and with another round.
-use Rattle.std.proofs.Common.{◌≡◌, inl, inr, ℕ, ◌+◌, ◌<◌, ◌≤◌, ◌==◌, Bool, true, false, List, Some, refl, sym, ap, subst, ◌∙◌, arith}
-use Rattle.std.specs.Prelude.{nat_lt, slice_get}
+use Rattle.std.proofs.Common.{◌≡◌, inl, inr, ℕ, ◌+◌, ◌<◌, ◌≤◌, ◌==◌, Bool, true, false, List, Option, Some, refl, sym, ap, subst, ◌∙◌, arith}
+use Rattle.std.specs.Prelude.{MatchOption, nat_lt, slice_get, slice_set, sum_by}
 use Rattle.std.proofs.lemmas.Bool.{eqb-false, eqb-true, ltb-false, ltb-true}
-use Rattle.host_hand.specs.declared.visit.Visit.{Visit}
+use Rattle.host_hand.specs.{CannotTake, IsVisitTold, begun_by, done_at, finished, Visit}
 use Rattle.host_hand.specs.declared.visit.Visit.TheVariants as visit
+use Rattle.host_intake.specs.{is_over, phase_in}
 use Rattle.host_io.specs.declared.disk.Disk as disk
-use Rattle.host_session.specs.declared.hand.SessionHand.{SessionHand}
-use Rattle.host_worker.specs.declared.hand.Hand.{Hand}
-use Rattle.host_worker.specs.declared.turned.Turn.{Turn}
-use Rattle.host_worker.specs.declared.turned.Turn.TheVariants.{Did, Idle, AllClosed}
-use Rattle.host_worker.specs.Turns.{AreOthersSame, EachOf, HasBegun, HasBegunOne, HasVisited, IsClosed, IsFound, IsQuiet, IsRound, SomeOpen, found_after, has_done, is_did, joined}
-use Rattle.host_worker.proofs.Lists.{set_at, set_elsewhere}
+use Rattle.host_session.specs.{SessionHand}
+use Rattle.host_turn.specs.{seen_by}
+use Rattle.host_worker.specs.{Hand, Turn, Did, Idle, AllClosed, AreOthersSame, EachOf, HasBegun, IsOwnTold, things_in, HasBegunOne, HasVisited, IsClosed, IsFound, IsHandQuiet, IsRound, SomeOpen, found_after, has_done, is_did, joined_turns}
+use Rattle.host_worker.proofs.Lists.{set_at, set_elsewhere, sum_set}
 
 pub did_is : (a : Visit) → is_did a ≡ true → a ≡ visit.Did
 did_is visit.Did e = refl
@@ -27,10 +26,57 @@ not_done Did e is = cc e
 not_done Idle e is = cc is
 not_done AllClosed e is = cc is
 
+-- a visit that did nothing began nothing
+pub not_did : (a : Visit) → is_did a ≡ false → done_at a ≡ 0
+not_did visit.Did e = absurd (cc e)
+not_did visit.Idle e = refl
+not_did visit.Closed e = refl
+
+pub nothing_in : (t : Turn) → has_done t ≡ false → things_in t ≡ 0
+nothing_in Did e = absurd (cc e)
+nothing_in Idle e = refl
+nothing_in AllClosed e = refl
+
+pub things_joined : (first second : Turn) → has_done first ≡ false → things_in (joined_turns first second) ≡ things_in second
+things_joined Did second e = absurd (cc e)
+things_joined Idle Did e = refl
+things_joined Idle Idle e = refl
+things_joined Idle AllClosed e = refl
+things_joined AllClosed second e = refl
+
+pub found_undone : (found : Turn) (answer : Visit) → has_done found ≡ false → has_done (found_after found answer) ≡ false
+found_undone found visit.Did e = e
+found_undone found visit.Idle e = refl
+found_undone found visit.Closed e = e
+
+-- why no record could be taken, by a visit that did nothing
+pub cannot_by : (sent : ℕ) (answer : Visit) (h : SessionHand) → is_did answer ≡ false → IsVisitTold sent answer (seen_by h.intake) → CannotTake sent (seen_by h.intake)
+cannot_by sent visit.Did h e told = absurd (cc e)
+cannot_by sent visit.Idle h e told = told
+cannot_by sent visit.Closed h e told = finished (ap is_over told)
+
+-- what hand n began at one session it began in all
+pub begun_more : (n k more : ℕ) (xs : List SessionHand) (before after : SessionHand) → slice_get xs k ≡ Some before → begun_by n (seen_by after.intake) ≡ begun_by n (seen_by before.intake) + more
+    → sum_by (λ (h : SessionHand). begun_by n (seen_by h.intake)) (slice_set xs k after) ≡ sum_by (λ (h : SessionHand). begun_by n (seen_by h.intake)) xs + more
+begun_more n k more xs before after at begun =
+    let sums = sum_set (λ (h : SessionHand). begun_by n (seen_by h.intake)) xs k before after at in omega (arith, sums, begun)
+
 module _ {D : Type 0} {g : disk.Ghosts D} where
+  pub found_nothing : (from to : ℕ) (hand : Hand D g) (found : Turn) → IsFound from to hand found → things_in found ≡ 0
+  found_nothing from to hand Did f = absurd f
+  found_nothing from to hand Idle f = refl
+  found_nothing from to hand AllClosed f = refl
+
+  -- what was told at a place stands there after rounds behind it and before it
+  pub own_told : (k sent count : ℕ) (old mid between new : Hand D g) (answer : Visit) (turn : Turn) → is_did answer ≡ false → HasVisited k sent old mid answer → AreOthersSame (k + 1) count mid between → AreOthersSame 0 k between new → IsOwnTold k sent new turn
+  own_told k sent count old mid between new answer turn e v behind before undone =
+      let there : slice_get new.sessions.items k ≡ Some v.after =
+      before k (inr (omega arith)) ∙ (behind k (inl (omega arith)) ∙ (ap (λ (x : List SessionHand). slice_get x k) v.sessions_are ∙ set_at old.sessions.items k v.after v.before v.stood)) in
+      subst (λ (o : Option SessionHand). MatchOption o ⊥ (λ h. CannotTake sent (seen_by h.intake))) (sym there) (cannot_by sent answer v.after e v.told)
+
   -- ---- one visit more
 
-  module _ (from k : ℕ) (mid new : Hand D g) (answer : Visit) (v : HasVisited k mid new answer) where
+  module _ (from k : ℕ) (sent : ℕ) (mid new : Hand D g) (answer : Visit) (v : HasVisited k sent mid new answer) where
     elsewhere : (j : ℕ) → (j ≡ k → ⊥) → slice_get new.sessions.items j ≡ slice_get mid.sessions.items j
     elsewhere j other = ap (λ (x : List SessionHand). slice_get x j) v.sessions_are ∙ set_elsewhere mid.sessions.items k j v.after other
 
@@ -63,19 +109,19 @@ module _ {D : Type 0} {g : disk.Ghosts D} where
     others_more old le o j out = elsewhere j (λ e. elim out [ inl a ↦ omega (arith, a, e, le) | inr b ↦ omega (arith, b, e) ])
         ∙ o j (elim out [ inl a ↦ inl a | inr b ↦ inr (omega (arith, b)) ])
 
-  pub found_idle : (from k : ℕ) (mid new : Hand D g) (v : HasVisited k mid new visit.Idle) (found : Turn) → from ≤ k → IsFound from k mid found → IsFound from (k + 1) new Idle
-  found_idle from k mid new v AllClosed le f = (each_more from k mid new visit.Idle v IsQuiet (λ j h low less at. inl (f j h low less at)) (inr v.told), here_open from k mid new visit.Idle v le (v.open_still refl))
-  found_idle from k mid new v Idle le f = (each_more from k mid new visit.Idle v IsQuiet f.0 (inr v.told), here_open from k mid new visit.Idle v le (v.open_still refl))
+  pub found_idle : (from k : ℕ) (mid new : Hand D g) (v : HasVisited k 0 mid new visit.Idle) (found : Turn) → from ≤ k → IsFound from k mid found → IsFound from (k + 1) new Idle
+  found_idle from k mid new v AllClosed le f = (each_more from k 0 mid new visit.Idle v IsHandQuiet (λ j h low less at. inl (f j h low less at)) (inr v.told), here_open from k 0 mid new visit.Idle v le (v.open_still refl))
+  found_idle from k mid new v Idle le f = (each_more from k 0 mid new visit.Idle v IsHandQuiet f.0 (inr v.told), here_open from k 0 mid new visit.Idle v le (v.open_still refl))
   found_idle from k mid new v Did le f = absurd f
 
-  pub found_closed : (from k : ℕ) (mid new : Hand D g) (v : HasVisited k mid new visit.Closed) (found : Turn) → IsFound from k mid found → IsFound from (k + 1) new found
-  found_closed from k mid new v AllClosed f = each_more from k mid new visit.Closed v IsClosed f v.told
-  found_closed from k mid new v Idle f = (each_more from k mid new visit.Closed v IsQuiet f.0 (inl v.told), open_still from k mid new visit.Closed v f.1)
+  pub found_closed : (from k : ℕ) (mid new : Hand D g) (v : HasVisited k 0 mid new visit.Closed) (found : Turn) → IsFound from k mid found → IsFound from (k + 1) new found
+  found_closed from k mid new v AllClosed f = each_more from k 0 mid new visit.Closed v IsClosed f v.told
+  found_closed from k mid new v Idle f = (each_more from k 0 mid new visit.Closed v IsHandQuiet f.0 (inl v.told), open_still from k 0 mid new visit.Closed v f.1)
   found_closed from k mid new v Did f = absurd f
 
-  pub found_did : (from k to : ℕ) (old mid new last : Hand D g) → last.sessions.items ≡ new.sessions.items → HasVisited k mid new visit.Did → from ≤ k → k < to → mid.number ≡ old.number → AreOthersSame from k old mid → IsRound from to old last Did
+  pub found_did : (from k to : ℕ) (old mid new last : Hand D g) → last.sessions.items ≡ new.sessions.items → HasVisited k 0 mid new visit.Did → from ≤ k → k < to → mid.number ≡ old.number → AreOthersSame from k old mid → IsRound from to old last Did
   found_did from k to old mid new last same_parts v le less same o =
-      let there : slice_get last.sessions.items k ≡ Some v.after = ap (λ (x : List SessionHand). slice_get x k) same_parts ∙ stands_now from k mid new visit.Did v in (
+      let there : slice_get last.sessions.items k ≡ Some v.after = ap (λ (x : List SessionHand). slice_get x k) same_parts ∙ stands_now from k 0 mid new visit.Did v in (
         record {
           place = k;
           within = (le, less);
@@ -88,7 +134,7 @@ module _ {D : Type 0} {g : disk.Ghosts D} where
         record { place = k; within = (le, less); session = v.after; stands = there; not_closed = v.open_still refl },
       )
 
-  pub found_more : (from k : ℕ) (mid new : Hand D g) (answer : Visit) (found : Turn) → is_did answer ≡ false → from ≤ k → HasVisited k mid new answer → IsFound from k mid found → IsFound from (k + 1) new (found_after found answer)
+  pub found_more : (from k : ℕ) (mid new : Hand D g) (answer : Visit) (found : Turn) → is_did answer ≡ false → from ≤ k → HasVisited k 0 mid new answer → IsFound from k mid found → IsFound from (k + 1) new (found_after found answer)
   found_more from k mid new visit.Did found e le v f = absurd (cc e)
   found_more from k mid new visit.Idle found e le v f = found_idle from k mid new v found le f
   found_more from k mid new visit.Closed found e le v f = found_closed from k mid new v found f
@@ -132,11 +178,11 @@ module _ {D : Type 0} {g : disk.Ghosts D} where
       begun = subst (λ (n : ℕ). HasBegunOne n b.before b.after) same b.begun;
     }
 
-    pub two_rounds : (first second : Turn) → (first ≡ Did → ⊥) → IsRound start count old mid first → IsRound 0 start mid new second → IsRound 0 count old new (joined first second)
+    pub two_rounds : (first second : Turn) → (first ≡ Did → ⊥) → IsRound start count old mid first → IsRound 0 start mid new second → IsRound 0 count old new (joined_turns first second)
     two_rounds Did second other f s = absurd (other refl)
     two_rounds Idle Did other f s = (begun_right s.0, open_right s.1)
-    two_rounds Idle Idle other f s = (all_of IsQuiet f.0 s.0, open_left f.1)
-    two_rounds Idle AllClosed other f s = (all_of IsQuiet f.0 (λ j h le less at. inl (s j h le less at)), open_left f.1)
+    two_rounds Idle Idle other f s = (all_of IsHandQuiet f.0 s.0, open_left f.1)
+    two_rounds Idle AllClosed other f s = (all_of IsHandQuiet f.0 (λ j h le less at. inl (s j h le less at)), open_left f.1)
     two_rounds AllClosed Did other f s = (begun_right s.0, open_right s.1)
-    two_rounds AllClosed Idle other f s = (all_of IsQuiet (λ j h le less at. inl (f j h le less at)) s.0, open_right s.1)
+    two_rounds AllClosed Idle other f s = (all_of IsHandQuiet (λ j h le less at. inl (f j h le less at)) s.0, open_right s.1)
     two_rounds AllClosed AllClosed other f s = all_of IsClosed f s

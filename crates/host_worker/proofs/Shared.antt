@@ -1,16 +1,13 @@
 -- A client of a server, and what it shares with the hands.
-use Rattle.std.proofs.Common.{◌≡◌, ◌-◌, ◌≤◌, sym, ap, subst, ◌∙◌, arith}
+use Rattle.std.proofs.Common.{◌≡◌, ℕ, ◌-◌, Some, ◌≤◌, sym, ap, subst, ◌∙◌, arith}
 use Rattle.std.specs.Prelude.{slice_get}
-use Rattle.std.proofs.lemmas.Option.{slice_get_within}
-use Rattle.host_frames.specs.Seats.{pool_id}
+use Rattle.std.proofs.lemmas.Option.{same_Some, slice_get_within}
+use Rattle.host_frames.specs.{pool_id}
+use Rattle.host_intake.specs.{IntakePlan}
 use Rattle.host_io.specs.declared.disk.Disk as disk
-use Rattle.host_session.specs.declared.shared.SessionShared.{SessionShared}
-use Rattle.host_session.specs.Client.{ClientState}
-use Rattle.host_session.specs.Plan.{IsItsPool, IsShared, SessionPlan}
-use Rattle.host_worker.specs.declared.hand.Hand.{Hand}
-use Rattle.host_worker.specs.declared.server.Server.{Server}
-use Rattle.host_worker.specs.Hands.{IsHandOf}
-use Rattle.host_worker.specs.Servers.{IsClientOf, IsServer, IsSession, IsSessionShared, block_count, block_size, keeps_of, plan_of, session_count}
+use Rattle.host_rings.specs.{NoteState}
+use Rattle.host_session.specs.{SessionShared, ClientState, IsItsPool, IsShared, SessionPlan, intake_plan}
+use Rattle.host_worker.specs.{Hand, Server, IsHandOf, IsNoteFor, IsClientOf, IsServer, IsSession, IsSessionShared, block_count, block_size, keeps_of, plan_of_session, session_count}
 
 module _ {D : Type 0} {g : disk.Ghosts D} (server : Server D g) (client : ClientState) where
   pub client_still : (new : ClientState) → new.plan ≡ client.plan → IsClientOf server client → IsClientOf server new
@@ -33,7 +30,14 @@ module _ {D : Type 0} {g : disk.Ghosts D} (server : Server D g) (client : Client
     pub shares : (shared : SessionShared) → IsSessionShared server client.plan.spec.number shared → IsShared client.plan shared
     shares shared is =
         subst (λ (p : SessionPlan). IsShared p shared) (sym c.plan)
-        (subst (λ (x : SessionShared). IsShared (plan_of c.session) x) (sym (is c.session c.stands)) its_session.shared)
+        (subst (λ (x : SessionShared). IsShared (plan_of_session c.session) x) (sym (is c.session c.stands)) its_session.shared)
+
+    -- a note of what this client sent is of the requests of its session
+    pub note_fits : (hand : Hand D g) → IsHandOf server hand → (place : ℕ) (note : NoteState) → place ≡ client.plan.spec.number - 1 → note.ring ≡ client.plan.requests → IsNoteFor place hand (Some note)
+    note_fits hand own place note at of h there plan is =
+        let part = (own.each place c.session h (ap (λ (k : ℕ). slice_get server.sessions.items k) at ∙ c.stands) there).hand.intake.plan_is in
+        let same : Some (intake_plan (plan_of_session c.session)) ≡ Some plan = sym part ∙ is in
+        of ∙ (ap (λ (p : SessionPlan). p.requests) c.plan ∙ ap (λ (p : IntakePlan). p.ring) (same_Some (intake_plan (plan_of_session c.session)) plan same))
 
     pub its_pool : (hand : Hand D g) → IsHandOf server hand → IsItsPool client.plan server.pool hand.pool_seat
     its_pool hand h =

@@ -5,37 +5,19 @@ use Rattle.std.specs.declared.alloc.Global.{Global}
 use Rattle.std.proofs.lemmas.List.{length-map, reverse-append}
 use Rattle.std.proofs.lemmas.Option.{slice_get_within}
 use Rattle.atomic_table.specs.Seated.{TableId}
-use Rattle.host_device.specs.declared.device.Device.{Device}
-use Rattle.host_device.specs.declared.fixed.DeviceFixed.{DeviceFixed}
-use Rattle.host_device.specs.Seen.{fixed_of, shape_of, steps_of}
-use Rattle.host_frames.specs.declared.seat.PoolSeat.{PoolSeat}
-use Rattle.host_frames.specs.Seats.{IsNewSeat, frame_count, page_size, pool_id}
+use Rattle.host_device.specs.{Device, DeviceFixed, fixed_of, shape_of, steps_of}
+use Rattle.host_frames.specs.{PoolSeat, IsNewSeat, frame_count, page_size, pool_id}
 use Rattle.host_frames.specs.Seats as frames
 use Rattle.host_hand.proofs.Others.{begins}
 use Rattle.host_io.specs.declared.disk.Disk as disk
-use Rattle.host_model.specs.declared.step.Step.{Step}
-use Rattle.host_session.specs.declared.hand.SessionHand.{SessionHand}
-use Rattle.host_session.specs.declared.spec.SessionSpec.{SessionSpec}
-use Rattle.host_session.specs.Client.{ClientState}
-use Rattle.host_session.specs.Plan.{IsFresh, IsHand}
-use Rattle.host_turn.specs.declared.seat.BookSeat.{BookSeat}
+use Rattle.host_model.specs.{Step}
+use Rattle.host_session.specs.{SessionHand, SessionSpec, ClientState, IsFreshHand, IsHand}
+use Rattle.host_turn.specs.{BookSeat, book_id, opening_of, seen_by}
 use Rattle.host_turn.specs.Seats as turns
-use Rattle.host_turn.specs.Seats.{book_id, opening_of, seen_by}
-use Rattle.host_worker.specs.declared.hand.Hand.{Hand}
-use Rattle.host_worker.specs.declared.room.ClosingRoom.{ClosingRoom}
-use Rattle.host_worker.specs.declared.server.Server.{Server}
-use Rattle.host_worker.specs.declared.session.Session.{Session}
-use Rattle.host_worker.specs.Hands.{AreNamed, IsClosingRoom, IsHandOf, IsNewHand, IsPartOf}
-use Rattle.host_worker.specs.Servers.{IsClientOf, IsServer, IsSession, block_count, block_size, keeps_of, plan_of}
-use Rattle.host_worker.specs.Shares.{IsNewShare, IsOpenedFor, openings_of, specs_of}
-use Rattle.host_worker.specs.declared.started.Started.{Started}
-use Rattle.host_worker.specs.Starts.{AreOpened, AreShares, AreSpecs, IsPlanned, IsStarted}
-use Rattle.host_worker.proofs.Dealt.{at_end, before_end, some_at}
+use Rattle.host_worker.specs.{Hand, ClosingRoom, Server, Session, AreNamed, IsClosingRoom, IsHandOf, IsNewHand, IsPartOf, IsClientOf, IsServer, IsSession, block_count, block_size, keeps_of, plan_of_session, IsNewShare, IsSessionOpenedFor, openings_of, specs_of, Started, AreOpened, AreShares, AreSpecs, IsPlanned, IsStarted}
+use Rattle.host_worker.proofs.Dealt.{before_end}
+use Rattle.host_log.proofs.Places.{some_at, get_last, nil_of}
 use Rattle.host_worker.proofs.Lists.{at_place, each_place, map_at, map_from, set_elsewhere, set_here}
-
-pub none_of : {A : Type 0} (xs : List A) → length xs ≡ 0 → xs ≡ []
-none_of [] e = refl
-none_of (x ∷ xs) e = absurd (omega (arith, e))
 
 -- without the last
 pub fewer : {A : Type 0} (P : A → Type 0) (all xs : List A) (x : A) → all ≡ xs ++ x ∷ [] → All P all → All P xs
@@ -89,9 +71,9 @@ module _ {D : Type 0} {g : disk.Ghosts D} where
   one_made book device pool openings n seat hand seats seats' shares shares' number_is seat_is next_is seats_are shares_are count new_seat new_seats new_shares = record {
     number_is = number_is;
     device_seat = subst (λ (q : BookSeat (Device D g) Step (DeviceFixed D)). turns.IsNewSeat (λ d. (steps_of d).items) fixed_of book device n q) (sym seat_is) new_seat;
-    pool_seat = at_place (IsNewSeat pool) seats (length seats') hand.pool_seat new_seats (ap (λ (l : List PoolSeat). slice_get l (length seats')) seats_are ∙ at_end seats' hand.pool_seat);
+    pool_seat = at_place (IsNewSeat pool) seats (length seats') hand.pool_seat new_seats (ap (λ (l : List PoolSeat). slice_get l (length seats')) seats_are ∙ get_last seats' hand.pool_seat);
     share = subst (λ (k : ℕ). IsNewShare openings k hand.sessions.items) count
-        (new_shares (length shares') hand.sessions (ap (λ (l : List (Vec SessionHand Global)). slice_get l (length shares')) shares_are ∙ at_end shares' hand.sessions));
+        (new_shares (length shares') hand.sessions (ap (λ (l : List (Vec SessionHand Global)). slice_get l (length shares')) shares_are ∙ get_last shares' hand.sessions));
     next_is = next_is;
   }
 
@@ -114,7 +96,7 @@ module _ {D : Type 0} {g : disk.Ghosts D} where
       (fresh : (steps_of device).items ≡ []) (opening : opening_of server.device ≡ device)
       (specs_ok : AreSpecs (steps_of device).kept (shape_of device).blocks (shape_of device).size specs)
       (specs_are : specs_of server.sessions.items ≡ specs)
-      (opened : (k : ℕ) (s : Session) → slice_get server.sessions.items k ≡ Some s → IsOpenedFor hands 0 (pool_id server.pool) s)
+      (opened : (k : ℕ) (s : Session) → slice_get server.sessions.items k ≡ Some s → IsSessionOpenedFor hands 0 (pool_id server.pool) s)
       (hand_count : server.hands ≡ hands) where
     pub sessions_run : (k : ℕ) (s : Session) → slice_get server.sessions.items k ≡ Some s → IsSession (keeps_of server) (block_count server) (block_size server) server.hands (pool_id server.pool) k s
     sessions_run k s at =
@@ -130,7 +112,7 @@ module _ {D : Type 0} {g : disk.Ghosts D} where
           size_is = planned.size_is ∙ ap (λ (d : Device D g). (shape_of d).size) (sym opening);
           keeps_is = at_place (λ (x : SessionSpec). x.keeps ≡ (steps_of device).kept) specs k s.spec specs_ok.kept here ∙ ap (λ (d : Device D g). (steps_of d).kept) (sym opening);
           part = (subst (λ (d : Device D g). s.spec.part.first + s.spec.part.count ≤ (shape_of d).blocks) (sym opening) part.0, part.1);
-          room = (none_of s.hands.items o.dealt.count, omega (arith, o.room, hand_count));
+          room = (nil_of s.hands.items o.dealt.count, omega (arith, o.room, hand_count));
         }
 
     module _ (openings : List ClientState) (are : openings_of server.sessions.items ≡ openings) (n : ℕ) (less : n < hands) (hand : Hand D g)
@@ -143,7 +125,7 @@ module _ {D : Type 0} {g : disk.Ghosts D} where
           let c : slice_get openings k ≡ Some s.opened.value = ap (λ (l : List ClientState). slice_get l k) (sym are) ∙ map_at (λ (x : Session). x.opened.value) server.sessions.items k s at in
           let e = m.share.each k s.opened.value h c here in
           record {
-            hand = subst (λ (j : ℕ). IsHand (plan_of s) j h) (sym m.number_is) e.0;
+            hand = subst (λ (j : ℕ). IsHand (plan_of_session s) j h) (sym m.number_is) e.0;
             keeps = begins s.spec hand.number (seen_by h.intake) (seen_by h.memory) (seen_by hand.device_seat) h.sender.pushed e.1.intake e.1.memory seen_none e.1.sender;
           }
 
@@ -168,7 +150,7 @@ module _ {D : Type 0} {g : disk.Ghosts D} where
       new_hand = record {
         device = seen_none;
         pool = (m.pool_seat.1, m.pool_seat.2, m.pool_seat.3);
-        sessions = each_place IsFresh hand.sessions.items (λ k h here.
+        sessions = each_place IsFreshHand hand.sessions.items (λ k h here.
             let c = some_at openings k (omega (arith, m.share.count, slice_get_within hand.sessions.items k h here)) in
             let e = m.share.each k c.0 h c.1 here in e.1);
       }

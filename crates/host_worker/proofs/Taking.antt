@@ -7,24 +7,15 @@ use Rattle.std.proofs.lemmas.List.{length-reverse, length-set, map-append, rever
 use Rattle.std.proofs.lemmas.List.Elements.{All-head, All-tail}
 use Rattle.std.proofs.lemmas.Option.{none-some, same_Some, slice_get_within}
 use Rattle.host_io.specs.declared.disk.Disk as disk
-use Rattle.host_model.specs.declared.event.Event.{Event}
-use Rattle.host_model.specs.declared.memory.MemEntry.{MemEntry}
-use Rattle.host_model.specs.declared.row.TakenRow.{TakenRow}
-use Rattle.host_report.specs.declared.session.SessionReport.{SessionReport}
-use Rattle.host_session.specs.declared.hand.SessionHand.{SessionHand}
-use Rattle.host_session.specs.Client.{ClientState}
-use Rattle.host_session.specs.Whole.{IsWhole}
+use Rattle.host_model.specs.{Event, MemEntry, TakenRow}
+use Rattle.host_report.specs.{SessionReport}
+use Rattle.host_session.specs.{SessionHand, ClientState, IsSessionWhole}
 use Rattle.host_session.proofs.Snoc.{found_one}
-use Rattle.host_worker.specs.declared.hand.Hand.{Hand}
-use Rattle.host_worker.specs.declared.session.Session.{Session}
-use Rattle.host_worker.specs.declared.session_end.SessionEnd.{SessionEnd}
-use Rattle.host_worker.specs.Finishes.{AreSessionsEnded, AreToEnd, IsEndOf, IsToEnd, parts_in}
-use Rattle.host_worker.specs.SessionEnds.{IsReportOf, report_of}
-use Rattle.host_worker.specs.Shares.{HasOneMore, HaveOneMore}
-use Rattle.host_worker.proofs.Dealt.{from_end, some_at}
+use Rattle.host_worker.specs.{Hand, Session, SessionEnd, AreSessionsEnded, AreToEnd, IsSessionEndOf, IsToEnd, parts_in, IsSessionReportOf, report_of, HasOneMore, HaveOneMore}
+use Rattle.host_worker.proofs.Dealt.{from_end}
+use Rattle.host_log.proofs.Places.{some_at, get_middle, nil_of}
 use Rattle.host_worker.proofs.Lists.{at_place, each_place, set_elsewhere, set_here}
 use Rattle.host_worker.proofs.Places.{both_longer, both_one_less, from_above, last_below, not_last, reflexive, room_left, unlike_above, unlike_below, wider, within_equal}
-use Rattle.host_worker.proofs.Starting.{none_of}
 
 -- ---- a share comes back
 
@@ -139,18 +130,14 @@ ended_none sessions clients left_s left_c n s c = record {
   ended = record { count = refl; each = λ k s c e at. absurd (none-some s at) };
 }
 
-at_middle : {A : Type 0} (xs : List A) (y : A) (zs : List A) → slice_get (xs ++ y ∷ zs) (length xs) ≡ Some y
-at_middle [] y zs = refl
-at_middle (x ∷ xs) y zs = at_middle xs y zs
-
 -- what a report says of a session that ended so
-pub end_as_reported : (s : Session) (c : ClientState) (end : SessionEnd) (report : SessionReport) → IsEndOf s c (report_of end) → IsReportOf end report → IsEndOf s c report
+pub end_as_reported : (s : Session) (c : ClientState) (end : SessionEnd) (report : SessionReport) → IsSessionEndOf s c (report_of end) → IsSessionReportOf end report → IsSessionEndOf s c report
 end_as_reported s c end report is says = record {
   spec = (says.place.0 ∙ is.spec.0, says.place.1 ∙ is.spec.1, says.place.2 ∙ is.spec.2);
   finish = is.finish ∙ ap Some (sym says.finish);
-  whole = subst (λ (l : List Event). IsWhole c s.hands.items l report.taken.items report.memory.items) (sym says.log)
-      (subst (λ (l : List TakenRow). IsWhole c s.hands.items end.logs.log.items l report.memory.items) (sym says.rows)
-      (subst (λ (l : List MemEntry). IsWhole c s.hands.items end.logs.log.items end.logs.rows.items l) (sym says.memory) is.whole));
+  whole = subst (λ (l : List Event). IsSessionWhole c s.hands.items l report.taken.items report.memory.items) (sym says.log)
+      (subst (λ (l : List TakenRow). IsSessionWhole c s.hands.items end.logs.log.items l report.memory.items) (sym says.rows)
+      (subst (λ (l : List MemEntry). IsSessionWhole c s.hands.items end.logs.log.items end.logs.rows.items l) (sym says.memory) is.whole));
 }
 
 module _ (sessions : List Session) (clients : List ClientState) (left_s more_s : List Session) (left_c more_c : List ClientState) (ends : List SessionReport)
@@ -163,13 +150,13 @@ module _ (sessions : List Session) (clients : List ClientState) (left_s more_s :
 
   pub next_to_end : IsToEnd keeps s c
   next_to_end =
-      t.each (length d.done_s) s c (ap (λ (l : List Session). slice_get l (length d.done_s)) s_rest ∙ at_middle d.done_s s (reverse more_s))
-      (ap (λ (l : List ClientState). slice_get l (length d.done_s)) c_rest ∙ (ap (λ (n : ℕ). slice_get (d.done_c ++ c ∷ reverse more_c) n) (sym d.even) ∙ at_middle d.done_c c (reverse more_c)))
+      t.each (length d.done_s) s c (ap (λ (l : List Session). slice_get l (length d.done_s)) s_rest ∙ get_middle d.done_s s (reverse more_s))
+      (ap (λ (l : List ClientState). slice_get l (length d.done_s)) c_rest ∙ (ap (λ (n : ℕ). slice_get (d.done_c ++ c ∷ reverse more_c) n) (sym d.even) ∙ get_middle d.done_c c (reverse more_c)))
 
   pub own_to_end : IsToEnd c.plan.spec.keeps s c
   own_to_end = let t = next_to_end in record { spec = t.spec; shared = t.shared; hands = t.hands; closed = t.closed; keeps_is = refl }
 
-  pub ended_more : (e : SessionReport) → IsEndOf s c e → AreEndedSoFar sessions clients more_s more_c (ends ++ e ∷ [])
+  pub ended_more : (e : SessionReport) → IsSessionEndOf s c e → AreEndedSoFar sessions clients more_s more_c (ends ++ e ∷ [])
   ended_more e is = record {
     done_s = d.done_s ++ s ∷ [];
     done_c = d.done_c ++ c ∷ [];
@@ -183,9 +170,9 @@ module _ (sessions : List Session) (clients : List ClientState) (left_s more_s :
     };
   }
     where
-      one : (k : ℕ) (x : Session) (y : ClientState) (z : SessionReport) → (slice_get d.done_s k ≡ Some x) ⊎ ((k ≡ length d.done_s) × (x ≡ s)) → (slice_get d.done_c k ≡ Some y) ⊎ ((k ≡ length d.done_c) × (y ≡ c)) → (slice_get ends k ≡ Some z) ⊎ ((k ≡ length ends) × (z ≡ e)) → IsEndOf x y z
+      one : (k : ℕ) (x : Session) (y : ClientState) (z : SessionReport) → (slice_get d.done_s k ≡ Some x) ⊎ ((k ≡ length d.done_s) × (x ≡ s)) → (slice_get d.done_c k ≡ Some y) ⊎ ((k ≡ length d.done_c) × (y ≡ c)) → (slice_get ends k ≡ Some z) ⊎ ((k ≡ length ends) × (z ≡ e)) → IsSessionEndOf x y z
       one k x y z (inl a) (inl b) (inl f) = d.ended.each k x y z a b f
-      one k x y z (inr a) (inr b) (inr f) = subst (λ (v : Session). IsEndOf v y z) (sym a.1) (subst (λ (v : ClientState). IsEndOf s v z) (sym b.1) (subst (λ (v : SessionReport). IsEndOf s c v) (sym f.1) is))
+      one k x y z (inr a) (inr b) (inr f) = subst (λ (v : Session). IsSessionEndOf v y z) (sym a.1) (subst (λ (v : ClientState). IsSessionEndOf s v z) (sym b.1) (subst (λ (v : SessionReport). IsSessionEndOf s c v) (sym f.1) is))
       one k x y z (inl a) (inr b) f = absurd (not_last k (length d.done_c) (length d.done_s) (slice_get_within d.done_s k x a) b.0 d.even)
       one k x y z (inr a) (inl b) f = absurd (not_last k (length d.done_s) (length d.done_c) (slice_get_within d.done_c k y b) a.0 (sym d.even))
       one k x y z (inl a) (inl b) (inr f) = absurd (not_last k (length ends) (length d.done_s) (slice_get_within d.done_s k x a) f.0 d.ended.count)
@@ -194,7 +181,7 @@ module _ (sessions : List Session) (clients : List ClientState) (left_s more_s :
 -- what a loop has come to stands in the list
 pub place_of : {A : Type 0} (xs ys zs : List A) (x : A) (k : ℕ) → xs ≡ (ys ++ x ∷ []) ++ zs → k ≡ length ys → slice_get xs k ≡ Some x
 place_of {A} xs ys zs x k are is =
-    ap (λ (l : List A). slice_get l k) (are ∙ append_assoc ys (x ∷ []) zs) ∙ (ap (λ (n : ℕ). slice_get (ys ++ x ∷ zs) n) is ∙ at_middle ys x zs)
+    ap (λ (l : List A). slice_get l k) (are ∙ append_assoc ys (x ∷ []) zs) ∙ (ap (λ (n : ℕ). slice_get (ys ++ x ∷ zs) n) is ∙ get_middle ys x zs)
 
 -- one element more of a mapped list was pushed
 pub pushed_map : {A B : Type 0} (f : A → B) (base : List B) (xs : List A) (x : A) (now new : List B) → new ≡ now ++ f x ∷ [] → now ≡ base ++ map f xs → new ≡ base ++ map f (xs ++ x ∷ [])
@@ -206,4 +193,4 @@ pub one_yielded : {A : Type 0} (all yielded rest more : List A) (x : A) → all 
 one_yielded {A} all yielded rest more x e f = e ∙ (ap (λ (l : List A). yielded ++ l) f ∙ sym (append_assoc yielded (x ∷ []) more))
 
 pub all_yielded : {A : Type 0} (all yielded rest : List A) → all ≡ yielded ++ rest → length rest ≡ 0 → all ≡ yielded
-all_yielded {A} all yielded rest e n = e ∙ (ap (λ (l : List A). yielded ++ l) (none_of rest n) ∙ append-nil yielded)
+all_yielded {A} all yielded rest e n = e ∙ (ap (λ (l : List A). yielded ++ l) (nil_of rest n) ∙ append-nil yielded)

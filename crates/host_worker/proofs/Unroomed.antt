@@ -4,17 +4,11 @@ use Rattle.std.specs.Prelude.{slice_get, slice_set, vec_capacity, vec_len}
 use Rattle.std.specs.List.{cons_option}
 use Rattle.std.proofs.lemmas.List.{length-map}
 use Rattle.host_io.specs.declared.disk.Disk as disk
-use Rattle.host_session.specs.declared.hand.SessionHand.{SessionHand}
-use Rattle.host_turn.specs.Seats.{IsSeatOutside, seat_count}
-use Rattle.host_frames.specs.Seats.{pool_id, seat_pool}
+use Rattle.host_session.specs.{SessionHand}
+use Rattle.host_turn.specs.{IsSeatOutside, seat_count}
+use Rattle.host_frames.specs.{pool_id, seat_pool}
 use Rattle.host_frames.specs.Seats as frames
-use Rattle.host_worker.specs.declared.hand.Hand.{Hand}
-use Rattle.host_worker.specs.declared.room.ClosingRoom.{ClosingRoom}
-use Rattle.host_worker.specs.declared.server.Server.{Server}
-use Rattle.host_worker.specs.declared.session.Session.{Session}
-use Rattle.host_worker.specs.Finishes.{AreBack, AreHands, HasRoomFor, HasTakenBack, parts_in, without_room}
-use Rattle.host_worker.specs.Hands.{IsClosingRoom}
-use Rattle.host_worker.specs.Servers.{IsServer, keeps_of}
+use Rattle.host_worker.specs.{Hand, ClosingRoom, Server, Session, AreBack, AreHands, HasRoomFor, HasTakenBack, parts_in, without_room, IsClosingRoom, IsServer, keeps_of}
 use Rattle.host_worker.proofs.Lists.{each_place, map_at, map_from}
 
 module _ {D : Type 0} {g : disk.Ghosts D} where

@@ -1,59 +1,41 @@
 -- A hand is one of its server still, after a visit at one session.
-use Rattle.std.proofs.Common.{◌≡◌, ℕ, ◌+◌, ◌<◌, ◌≤◌, ◌==◌, Bool, true, false, List, [], ◌∷◌, ◌++◌, length, All, Option, Some, refl, sym, ap, subst, ◌∙◌, arith}
+use Rattle.std.proofs.Common.{◌≡◌, ℕ, ◌+◌, ◌<◌, ◌≤◌, ◌==◌, Bool, true, false, List, [], ◌∷◌, ◌++◌, length, All, Option, Some, refl, sym, ap, subst, ◌∙◌}
 use Rattle.std.proofs.lemmas.List.{length-set}
-use Rattle.std.specs.Prelude.{◌&&◌, nat_le, MatchOption, slice_get, slice_set, sum_by}
+use Rattle.std.specs.Prelude.{nat_le, MatchOption, slice_get, slice_set, sum_by}
 use Rattle.std.specs.List.{list_all}
 use Rattle.std.specs.Option.{ForSome}
 use Rattle.std.proofs.lemmas.Bool.{eqb-false, eqb-true, le-leb}
 use Rattle.std.proofs.lemmas.Option.{same_Some, slice_get_within}
-use Rattle.host_frames.specs.declared.seat.PoolSeat.{PoolSeat}
-use Rattle.host_frames.specs.Seats.{given_back, seat_pool}
-use Rattle.host_hand.specs.Frames.{frames_out}
-use Rattle.host_hand.specs.declared.visit.Visit.{Visit}
-use Rattle.host_device.specs.declared.fixed.DeviceFixed.{DeviceFixed}
-use Rattle.host_device.specs.Seen.{fixed_of}
-use Rattle.host_frames.specs.Seats.{pool_id}
-use Rattle.host_hand.specs.Posts.{IsAtDevice, IsOnDevice, IsPosted, IsSameHand}
-use Rattle.host_hand.specs.Serves.{HasServed}
+use Rattle.host_frames.specs.{PoolSeat, given_back, seat_pool, pool_id}
+use Rattle.host_hand.specs.{frames_out, Visit, IsAtDevice, IsOnDevice, IsPosted, IsSameHand, HasServed}
+use Rattle.host_device.specs.{DeviceFixed, fixed_of}
 use Rattle.host_io.specs.declared.disk.Disk as disk
-use Rattle.host_model.specs.declared.step.Step.{Step}
-use Rattle.host_report.specs.Lawful.{is_of_sessions}
-use Rattle.host_session.specs.declared.hand.SessionHand.{SessionHand}
-use Rattle.host_session.specs.declared.shared.SessionShared.{SessionShared}
-use Rattle.host_session.specs.Plan.{IsHand, IsShared, SessionPlan}
-use Rattle.host_turn.specs.History.{entries_of}
-use Rattle.host_turn.specs.Seats.{book_id, fixed_part, opening_of, seen_by}
-use Rattle.host_worker.specs.declared.hand.Hand.{Hand}
-use Rattle.host_worker.specs.declared.room.ClosingRoom.{ClosingRoom}
-use Rattle.host_worker.specs.declared.server.Server.{Server}
-use Rattle.host_worker.specs.declared.session.Session.{Session}
-use Rattle.host_worker.specs.Accounts.{HasWorked, frames_of}
-use Rattle.host_worker.specs.Hands.{AreNamed, IsClosingRoom, IsHandOf, IsPartOf, with_pool_seat}
-use Rattle.host_worker.specs.Servers.{IsServer, plan_of, shared_of, keeps_of}
+use Rattle.host_model.specs.{Step}
+use Rattle.host_report.specs.{is_of_sessions}
+use Rattle.host_session.specs.{SessionHand, SessionShared, IsHand, IsShared, SessionPlan}
+use Rattle.host_log.specs.{entries_of, HasAdded}
+use Rattle.host_turn.specs.{book_id, fixed_part, opening_of, seen_by}
+use Rattle.host_worker.specs.{Hand, ClosingRoom, Server, Session, HasWorked, frames_of, AreNamed, IsClosingRoom, IsHandOf, IsPartOf, with_pool_seat, IsServer, plan_of_session, shared_of, keeps_of}
 use Rattle.host_hand.proofs.Others.{at_session_others}
-use Rattle.host_intake.proofs.Ledgering.{and_left, and_right}
-use Rattle.host_hand.specs.Growth.{HasAdded}
 use Rattle.std.proofs.lemmas.List.Elements.{All-head, All-tail}
 use Rattle.host_worker.proofs.Lists.{set_elsewhere, set_here, sum_set}
 use Rattle.host_worker.proofs.Places.{from_one, same_change, unlike_numbers, up_to_count}
-
-and_true : (a b : Bool) → a ≡ true → b ≡ true → (a && b) ≡ true
-and_true a b e f = ap (λ (w : Bool). w && b) e ∙ f
+use Rattle.host_log.proofs.Bools.{and_both, and_left, and_right}
 
 -- ---- own steps name sessions of the server
 
 module _ (count n session : ℕ) (within : (1 ≤ session) × (session ≤ count)) where
   of_session : (x : Step) → x.session ≡ session → is_of_sessions count x ≡ true
-  of_session x e = and_true (nat_le 1 x.session) (nat_le x.session count) (le-leb 1 x.session (subst (λ (m : ℕ). 1 ≤ m) (sym e) within.0)) (le-leb x.session count (subst (λ (m : ℕ). m ≤ count) (sym e) within.1))
+  of_session x e = and_both (nat_le 1 x.session) (nat_le x.session count) (le-leb 1 x.session (subst (λ (m : ℕ). 1 ≤ m) (sym e) within.0)) (le-leb x.session count (subst (λ (m : ℕ). m ≤ count) (sym e) within.1))
 
   all_of_session : (xs : List Step) → All (λ (x : Step). x.session ≡ session) xs → list_all (is_of_sessions count) xs ≡ true
   all_of_session [] all = refl
-  all_of_session (x ∷ xs) all = and_true (is_of_sessions count x) (list_all (is_of_sessions count) xs)
+  all_of_session (x ∷ xs) all = and_both (is_of_sessions count x) (list_all (is_of_sessions count) xs)
       (of_session x (All-head (λ (y : Step). y.session ≡ session) x xs all)) (all_of_session xs (All-tail (λ (y : Step). y.session ≡ session) x xs all))
 
   append_named : (xs ys : List Step) → list_all (is_of_sessions count) xs ≡ true → list_all (is_of_sessions count) ys ≡ true → list_all (is_of_sessions count) (xs ++ ys) ≡ true
   append_named [] ys a b = b
-  append_named (x ∷ xs) ys a b = and_true (is_of_sessions count x) (list_all (is_of_sessions count) (xs ++ ys))
+  append_named (x ∷ xs) ys a b = and_both (is_of_sessions count x) (list_all (is_of_sessions count) (xs ++ ys))
       (and_left (is_of_sessions count x) (list_all (is_of_sessions count) xs) a) (append_named xs ys (and_right (is_of_sessions count x) (list_all (is_of_sessions count) xs) a) b)
 
   pub named_still : (added old new : List Step) → HasAdded (λ step. step.hand) n added old new → All (λ (x : Step). x.session ≡ session) added → AreNamed count n old → AreNamed count n new
@@ -75,10 +57,10 @@ module _ {D : Type 0} {g : disk.Ghosts D} (server : Server D g) (hand : Hand D g
   its_post shared is =
       let r = running.sessions k s here in
       record {
-        plan = plan_of s;
+        plan = plan_of_session s;
         spec_is = r.spec;
         pool_is = r.plan.1;
-        of_session = subst (λ (x : SessionShared). IsShared (plan_of s) x) (sym is) r.shared;
+        of_session = subst (λ (x : SessionShared). IsShared (plan_of_session s) x) (sym is) r.shared;
         hand_is = (own.each k s h here there).hand;
       }
 
@@ -100,8 +82,9 @@ module _ {D : Type 0} {g : disk.Ghosts D} (server : Server D g) (old new : Hand 
     pub closing : new.room ≡ old.room
     pub stood : slice_get old.sessions.items k ≡ Some before
     pub sessions_are : new.sessions.items ≡ slice_set old.sessions.items k after
+    pub sent : ℕ
     pub answer : Visit
-    pub served : HasServed s.spec old.number before after old.device_seat new.device_seat old.pool_seat new.pool_seat answer
+    pub served : HasServed s.spec old.number before after old.device_seat new.device_seat old.pool_seat new.pool_seat sent answer
 
   module _ (running : IsServer server) (own : IsHandOf server old) (here : slice_get server.sessions.items k ≡ Some s) (l : HasLeft) where
     apart : (j : ℕ) (t : Session) → slice_get server.sessions.items j ≡ Some t → (j ≡ k → ⊥) → t.spec.number ≡ s.spec.number → ⊥
@@ -115,7 +98,7 @@ module _ {D : Type 0} {g : disk.Ghosts D} (server : Server D g) (old new : Hand 
         let was = own.each k s before here l.stood in
         subst (λ (x : SessionHand). IsPartOf t old.number x (seen_by new.device_seat)) (sym is_after)
         (subst (λ (y : Session). IsPartOf y old.number after (seen_by new.device_seat)) (sym is_s)
-        (record { hand = hand_still (plan_of s) old.number before after l.served.hand was.hand; keeps = l.served.keeps }))
+        (record { hand = hand_still (plan_of_session s) old.number before after l.served.hand was.hand; keeps = l.served.keeps }))
     part_at j t h there stands false e =
         let other : j ≡ k → ⊥ = eqb-false j k e in
         let was = own.each j t h there (sym (set_elsewhere old.sessions.items k j after other) ∙ stands) in

@@ -1,19 +1,10 @@
 -- What holds while a client waits.
 use Rattle.std.proofs.Common.{◌≡◌, ℕ, ◌<◌, ◌≤◌, List, length, Ok, Err, sym, ap, subst, arith}
 use Rattle.host_io.specs.declared.disk.Disk as disk
-use Rattle.host_model.specs.Log.{sent}
-use Rattle.host_session.specs.declared.error.SendError.{SendError}
+use Rattle.host_model.specs.{sent}
+use Rattle.host_session.specs.{SendError, SessionShared, IsSendAnswer, ClientState, room_left, IsShared, SessionPlan}
 use Rattle.host_session.specs.declared.error.SendError.TheVariants as send
-use Rattle.host_session.specs.declared.shared.SessionShared.{SessionShared}
-use Rattle.host_session.specs.Calls.{IsSendAnswer}
-use Rattle.host_session.specs.Client.{ClientState, room_left}
-use Rattle.host_session.specs.Plan.{IsShared, SessionPlan}
-use Rattle.host_worker.specs.declared.hand.Hand.{Hand}
-use Rattle.host_worker.specs.declared.server.Server.{Server}
-use Rattle.host_worker.specs.Accounts.{HasWorked}
-use Rattle.host_worker.specs.Hands.{IsHandOf}
-use Rattle.host_worker.specs.Servers.{IsClientOf}
-use Rattle.host_worker.specs.Waits.{HasReceived, HasRoom, HasSent, KeepsRoom, KeepsRoomBut, MayWait}
+use Rattle.host_worker.specs.{Hand, Server, HasWorked, IsHandOf, IsClientOf, HasReceived, HasAnswerRoom, HasSent, KeepsRoom, KeepsRoomBut, MayWait}
 use Rattle.host_worker.proofs.Closed.{has_worked_none, has_worked_then}
 use Rattle.host_worker.proofs.Receiving.{may_send, plan_still, received_nothing, received_then, records_still, room_sent}
 use Rattle.host_worker.proofs.Shared.{client_still}
@@ -52,7 +43,7 @@ module _ {D : Type 0} {g : disk.Ghosts D} (server : Server D g) (hand : Hand D g
     pub waiting_shared : (shared : SessionShared) → IsShared client.plan shared → IsShared client'.plan shared
     waiting_shared shared s = subst (λ (p : SessionPlan). IsShared p shared) (sym (plan_still client client' w.received)) s
 
-    pub waiting_room : (more : ℕ) → MayWait more client → HasRoom 0 client'
+    pub waiting_room : (more : ℕ) → MayWait more client → HasAnswerRoom 0 client'
     waiting_room more m = let r = w.room more m.room in omega (arith, r)
 
     pub waiting_send : MayWait 1 client → 1 ≤ room_left client'

@@ -19,14 +19,17 @@ report_on ends blocks which closing = record {
   size = ends.size;
   which = which;
   sessions = record { items = ends.sessions; room = length ends.sessions };
-  steps = record { items = ends.story ++ closing_steps closing; room = length (ends.story ++ closing_steps closing) };
+  steps = record {
+    items = ends.story ++ closing_steps closing;
+    room = length (ends.story ++ closing_steps closing);
+  };
   closing = closing;
   frames_home = ends.frames_home;
 }
 
--- A report of these ends, which are those of a server with these clients and hands: the sessions are the server's, and the
--- steps are the server's, with those of the closing behind them.
-pub record IsGathered (ends : EndsState) (report : Report) : Type 0 where
+-- A report of these ends, which are those of a server with these clients and hands: the sessions
+-- are the server's, and the steps are the server's, with those of the closing behind them.
+pub record IsReportGathered (ends : EndsState) (report : Report) : Type 0 where
   pub clients : List ClientState
   pub hands : List HandEnd
   pub ended : AreEnded clients hands ends

@@ -17,7 +17,8 @@ use std::alloc::Global;
 use std::sync::Wait;
 use std::thread;
 
-/// Ends the session by a drain: all that was sent is taken and answered, and every answer received, until it is closed.
+/// Ends the session by a drain: all that was sent is taken and answered, and every answer received,
+/// until it is closed.
 pub fn drain<R: Wait, D: Disk, G: Gate>(
     rt: &R,
     alloc: Global,
@@ -88,7 +89,8 @@ fn close<R: Wait, D: Disk>(
     requires hand { IsHandOf server.now hand.old }
     requires ended { IsSome client.old.finish }
     ensures hand { hand.new ≡ with_pool_seat hand.old hand.new.pool_seat }
-    ensures answer { IsCloseAnswer client.old client.new hand.old.pool_seat hand.new.pool_seat result }
+    ensures answer { IsCloseAnswer client.old client.new hand.old.pool_seat hand.new.pool_seat
+        result }
     ensures worked { HaveWorked hand.old hand.new client.old client.new }
 {
     let shared = session_of(server, client);

@@ -1,13 +1,17 @@
 //! A server is finished.
-ghost use Rattle.std.specs.Prelude.{◌≡◌, ◌<◌, ◌≤◌, [], ◌+◌, true, length, map, slice_get, IsSome, Some, All, vec_capacity, vec_len};
+ghost use Rattle.std.specs.Prelude.{◌≡◌, ◌<◌, ◌≤◌, [], ◌+◌, true, length, map, slice_get, IsSome};
+ghost use Rattle.std.specs.Prelude.{Some, All, vec_capacity, vec_len};
 ghost use Rattle.std.specs.Option.{ForSome};
-ghost use Rattle.host_frames.specs.Seats.{SomeSeatRefused, asked, frame_count, given_back, granted, pool_id, seat_count, seat_pool};
-ghost use Rattle.host_frames.specs.Sums.{total};
+ghost use Rattle.host_frames.specs.Seats.{SomeSeatRefused, frames_asked, frame_count, given_back};
+ghost use Rattle.host_frames.specs.Seats.{granted, pool_id, seat_count, seat_pool};
+ghost use Rattle.host_log.specs.Sums.{total};
 ghost use Rattle.host_device.specs.Seen.{fixed_of, shape_of, steps_of};
 ghost use Rattle.host_turn.specs.Seats.{opening_of};
 ghost use Rattle.host_worker.specs.Accounts.{AreAccounted};
 ghost use Rattle.host_worker.specs.Ends.{AreEnded, hand_end};
-ghost use Rattle.host_worker.specs.Finishes.{AreClosed, AreHands, AreSessionsEnded, AreToEnd, HasRoomFor, HasTakenBack, IsEndOf, IsToEnd, without_room};
+ghost use Rattle.host_worker.specs.Finishes.{AreClosed, AreHands, AreSessionsEnded, AreToEnd};
+ghost use Rattle.host_worker.specs.Finishes.{HasRoomFor, HasTakenBack, IsSessionEndOf, IsToEnd};
+ghost use Rattle.host_worker.specs.Finishes.{without_room};
 ghost use Rattle.host_session.specs.Keeping.{AreKeptAs};
 ghost use Rattle.host_worker.specs.SessionEnds.{report_of};
 ghost use Rattle.host_worker.specs.Servers.{IsServer, keeps_of};
@@ -26,14 +30,16 @@ use host_session::{ClientEnd, SessionHand, close_session};
 use std::snapshot::Snapshot;
 
 impl<D: Disk> Server<D> {
-    /// Puts all together at the end: the device with its steps, and how each session ended. These are all its clients and hands, and every session is closed. It takes no memory.
+    /// Puts all together at the end: the device with its steps, and how each session ended. These
+    /// are all its clients and hands, and every session is closed. It takes no memory.
     pub fn finish(self, clients: Vec<ClientEnd>, mut hands: Vec<Hand<D>>) -> Finished<D>
         requires server { IsServer self }
         requires clients { AreClosed self clients.items }
         requires hands { AreHands self hands.items }
         requires accounted { AreAccounted hands.items clients.items }
         ensures ended { AreEnded clients.items (map hand_end hands.items) result.ends }
-        ensures story { (result.ends.story ≡ (steps_of result.device).items) × (result.ends.size ≡ (shape_of result.device).size) }
+        ensures story { (result.ends.story ≡ (steps_of result.device).items)
+            × (result.ends.size ≡ (shape_of result.device).size) }
         ensures device { fixed_of result.device ≡ fixed_of (opening_of self.device) }
         ensures keeps { result.ends.keeps ≡ keeps_of self }
     {
@@ -76,8 +82,10 @@ fn room_in<D: Disk>(hands: &mut Vec<Hand<D>>) -> ClosingRoom<D>
 fn close_pool(pool: Pool, seats: Vec<PoolSeat>) -> u32
     requires all { vec_len seats ≡ seat_count pool }
     requires seats { All (λ q. seat_pool q ≡ pool_id pool) seats.items }
-    ensures home { result + total granted seats.items ≡ frame_count pool + total given_back seats.items }
-    ensures refused { SomeSeatRefused (frame_count pool) seats.items → frame_count pool < total asked seats.items }
+    ensures home { result + total granted seats.items
+        ≡ frame_count pool + total given_back seats.items }
+    ensures refused { SomeSeatRefused (frame_count pool) seats.items
+        → frame_count pool < total frames_asked seats.items }
 {
     pool.close(seats)
 }
@@ -85,7 +93,8 @@ fn close_pool(pool: Pool, seats: Vec<PoolSeat>) -> u32
 // Takes the hands apart, in the room that was kept for their parts.
 fn take_back<D: Disk>(room: &mut ClosingRoom<D>, sessions: &mut Vec<Session>, hands: Vec<Hand<D>>)
     requires room { HasRoomFor (length hands.items) room.old sessions.old.items }
-    requires shares { All (λ hand. length hand.sessions.items ≡ length sessions.old.items) hands.items }
+    requires shares { All (λ hand. length hand.sessions.items ≡ length sessions.old.items)
+        hands.items }
     ensures { HasTakenBack hands.items room.old room.new sessions.old.items sessions.new.items }
 {
     for hand in hands {
@@ -139,7 +148,7 @@ fn end_all(
 // Ends one session.
 fn end_session(session: Session, client: ClientEnd) -> SessionEnd
     requires { IsToEnd client.plan.spec.keeps session client }
-    ensures end { IsEndOf session client (report_of result) }
+    ensures end { IsSessionEndOf session client (report_of result) }
     ensures kept { AreKeptAs client.plan.spec.keeps result.logs }
 {
     let Session {

@@ -13,10 +13,11 @@ pub struct Finished<D: Disk> {
     pub(crate) ends: Ends<D>,
 }
 
-/// How the sessions of a server ended, and how many frames are home. It has no maker but `Server::finish`.
+/// How the sessions of a server ended, and how many frames are home. It has no maker but
+/// `Server::finish`.
 ///
-/// Contracts see the sessions, whether they are kept, the frames, and the device's steps and the length of its blocks at that
-/// moment.
+/// Contracts see the sessions, whether they are kept, the frames, and the device's steps and the
+/// length of its blocks at that moment.
 #[derive(Drop)]
 pub struct Ends<D: Disk> {
     pub(crate) sessions: SessionEnds,
@@ -31,7 +32,11 @@ impl<D: Disk> Model for Ends<D> {
 
     ghost Value = { EndsState };
 
-    ghost view = { λ a. ends_seen a.sessions.items a.sessions.kept a.frames_home (steps_of a.left.value).items (shape_of a.left.value).size };
+    ghost view = { λ a.
+        ends_seen a.sessions.items a.sessions.kept a.frames_home (steps_of a.left.value).items
+        (shape_of a.left.value).size };
 
-    ghost invariant = { λ a. IsEnded (ends_seen a.sessions.items a.sessions.kept a.frames_home (steps_of a.left.value).items (shape_of a.left.value).size) };
+    ghost invariant = { λ a.
+        IsEnded (ends_seen a.sessions.items a.sessions.kept a.frames_home
+        (steps_of a.left.value).items (shape_of a.left.value).size) };
 }

@@ -3,7 +3,7 @@ ghost use Rattle.std.specs.Prelude.{◌≡◌, ◌++◌, ◌&&◌, is_some, IfSo
 ghost use Rattle.host_device.specs.Faults.{RoseBy, faulted_count};
 ghost use Rattle.host_device.specs.Seen.{KeepsHistory, disk_of, opening_of, shape_of, steps_of};
 ghost use Rattle.host_report.specs.Lawful.{closing_steps};
-ghost use Rattle.host_worker.specs.Gathered.{IsGathered, report_on, reported};
+ghost use Rattle.host_worker.specs.Gathered.{IsReportGathered, report_on, reported};
 
 use crate::finished::{Ends, Finished};
 use host_block::BlockSize;
@@ -18,8 +18,8 @@ pub struct Served {
     report: Snapshot<Report>,
 }
 
-/// The report of a finished server, where its histories are kept, and the disk. The closing flush was made on the device as
-/// `closing` says. It takes no memory.
+/// The report of a finished server, where its histories are kept, and the disk. The closing flush
+/// was made on the device as `closing` says. It takes no memory.
 pub fn gather<D: Disk>(
     finished: Finished<D>,
     blocks: u64,
@@ -27,20 +27,29 @@ pub fn gather<D: Disk>(
     which: Which,
     closing: Closing,
 ) -> (Option<(Report, Served)>, D)
-    requires story { (steps_of finished.device).items ≡ finished.ends.story ++ closing_steps closing }
+    requires story { (steps_of finished.device).items
+        ≡ finished.ends.story ++ closing_steps closing }
     requires size { size ≡ finished.ends.size }
-    ensures report { IfSome result.0 (λ made. IsGathered finished.ends made.0) }
-    ensures given { IfSome result.0 (λ made. (made.0.blocks ≡ blocks) × (made.0.size ≡ size) × (made.0.which ≡ which) × (made.0.closing ≡ closing)) }
-    ensures steps { IfSome result.0 (λ made. made.0.steps.items ≡ (steps_of finished.device).items) }
+    ensures report { IfSome result.0 (λ made. IsReportGathered finished.ends made.0) }
+    ensures given { IfSome result.0 (λ made.
+        (made.0.blocks ≡ blocks) × (made.0.size ≡ size) × (made.0.which ≡ which)
+        × (made.0.closing ≡ closing)) }
+    ensures steps { IfSome result.0
+        (λ made. made.0.steps.items ≡ (steps_of finished.device).items) }
     ensures served { IfSome result.0 (λ made. reported made.1 ≡ made.0) }
     ensures kept { is_some result.0 ≡ (finished.ends.keeps && (steps_of finished.device).kept) }
-    ensures gathered { IsGathered finished.ends (report_on finished.ends blocks which closing) }
+    ensures gathered { IsReportGathered finished.ends
+        (report_on finished.ends blocks which closing) }
     ensures disk { result.1 ≡ disk_of finished.device }
     ensures told { IsTrue (shape_of finished.device).tells → KeepsHistory finished.device }
     ensures shape { shape_of finished.device ≡ D.shape (opening_of finished.device) }
     ensures opening { D.opening (disk_of finished.device) ≡ D.opening (opening_of finished.device) }
-    ensures faults { RoseBy (faulted_count (steps_of finished.device).items) (D.counts (opening_of finished.device)).faults (D.counts (disk_of finished.device)).faults }
-    ensures unfailing { IsTrue (D.never_fails (opening_of finished.device)) → IsTrue (D.never_fails (disk_of finished.device)) × ((D.counts (disk_of finished.device)).faults ≡ (D.counts (opening_of finished.device)).faults) }
+    ensures faults { RoseBy (faulted_count (steps_of finished.device).items)
+        (D.counts (opening_of finished.device)).faults (D.counts (disk_of finished.device)).faults }
+    ensures unfailing { IsTrue (D.never_fails (opening_of finished.device))
+        → IsTrue (D.never_fails (disk_of finished.device))
+        × ((D.counts (disk_of finished.device)).faults
+        ≡ (D.counts (opening_of finished.device)).faults) }
 {
     let Finished { device, ends } = finished;
     let Ends {

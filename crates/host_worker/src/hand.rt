@@ -8,7 +8,8 @@ use host_io::Disk;
 use host_session::SessionHand;
 use host_turn::BookSeat;
 
-/// One that works at a server: its seats at the device and at the pool, and what it has of each session, all of its number.
+/// One that works at a server: its seats at the device and at the pool, and what it has of each
+/// session, all of its number.
 #[derive(Drop)]
 pub struct Hand<D: Disk> {
     pub(crate) number: u32,
@@ -17,7 +18,8 @@ pub struct Hand<D: Disk> {
     pub(crate) sessions: Vec<SessionHand>,
     // The place of the session at which its next turn begins.
     pub(crate) next: usize,
-    // The first hand keeps the room for what the closing calls take. A server that threads share can't: it would share seats at the device.
+    // The first hand keeps the room for what the closing calls take. A server that threads share
+    // can't: it would share seats at the device.
     pub(crate) room: Option<ClosingRoom<D>>,
 }
 
@@ -29,7 +31,8 @@ impl<D: Disk> Hand<D> {
 
     /// Its seat at the pool.
     pub fn pool_seat(&mut self) -> &mut PoolSeat
-        ensures* writes_back { sem 𝓛 (Lends (the_row D.row D.Disk) seat_row self.entry result (with_pool_seat self.old)) }
+        ensures* writes_back { sem 𝓛
+            (Lends (the_row D.row D.Disk) seat_row self.entry result (with_pool_seat self.old)) }
         ensures seat { result.now ≡ pool_seat_of self.old }
     {
         &mut self.pool_seat

@@ -1,4 +1,5 @@
-//! The server: sessions over one device, hands that go round them, waits, and what is gathered at the end.
+//! The server: sessions over one device, hands that go round them, waits, and what is gathered at
+//! the end.
 #![tactic(auto)]
 
 mod ending;

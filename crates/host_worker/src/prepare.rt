@@ -3,7 +3,8 @@ ghost use Rattle.std.specs.Prelude.{◌<◌, ◌≤◌, length, IfOk, All, slice
 ghost use Rattle.std.specs.Option.{ForSome};
 ghost use Rattle.host_frames.specs.Seats.{page_size, pool_id};
 ghost use Rattle.host_worker.specs.Shares.{HasHands, HaveOneMore};
-ghost use Rattle.host_worker.specs.Starts.{AreDealt, AreOpened, HasGiven, HasOpened, IsPlanned, IsPrepared};
+ghost use Rattle.host_worker.specs.Starts.{AreSharesDealt, AreOpened, HasGiven, HasOpened};
+ghost use Rattle.host_worker.specs.Starts.{IsPlanned, IsPrepared};
 
 use crate::hand::Hand;
 use crate::session::Session;
@@ -38,7 +39,8 @@ pub struct Opened {
     pub clients: Vec<ClientEnd>,
 }
 
-/// Takes all memory of a server but that of its device's book. The reports of its sessions are kept or not.
+/// Takes all memory of a server but that of its device's book. The reports of its sessions are kept
+/// or not.
 pub fn prepare<D: Disk>(
     alloc: Global,
     specs: &[SessionSpec],
@@ -91,7 +93,8 @@ impl Opened {
     fn add(&mut self, alloc: Global, spec: &SessionSpec, hands: u32, pool: &Pool) -> Result<(), Oom>
         requires hands { (1 ≤ hands) × (hands ≤ 4294967293) }
         requires planned { IsPlanned (page_size pool.now) spec.now }
-        requires room { (vec_len self.old.sessions < vec_capacity self.old.sessions) × (vec_len self.old.clients < vec_capacity self.old.clients) }
+        requires room { (vec_len self.old.sessions < vec_capacity self.old.sessions)
+            × (vec_len self.old.clients < vec_capacity self.old.clients) }
         ensures { IfOk result (λ _. HasOpened spec.now hands (pool_id pool.now) self.old self.new) }
     {
         let (shared, client, all) = open_session(alloc, *spec, hands, pool)?;
@@ -115,7 +118,8 @@ fn deal(
     hands: u32,
 ) -> Result<Vec<Vec<SessionHand>>, Oom>
     requires full { All (HasHands hands) sessions.old.items }
-    ensures { IfOk result (λ shares. AreDealt hands sessions.old.items sessions.new.items shares.items) }
+    ensures { IfOk result
+        (λ shares. AreSharesDealt hands sessions.old.items sessions.new.items shares.items) }
 {
     let Ok(mut shares) = Vec::with_capacity(alloc, hands as usize) else {
         return Err(Oom);

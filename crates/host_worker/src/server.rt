@@ -8,7 +8,8 @@ use host_io::Disk;
 use host_session::SessionShared;
 use host_turn::Book;
 
-/// A device, a pool of pages and the sessions over them, each on a partition of its own number. Clients and hands work at it together.
+/// A device, a pool of pages and the sessions over them, each on a partition of its own number.
+/// Clients and hands work at it together.
 #[derive(Drop)]
 pub struct Server<D: Disk> {
     pub(crate) device: Book<Device<D>>,

@@ -9,6 +9,7 @@ pub struct Session {
     pub shared: CachePadded<SessionShared>,
     /// Its client's end as it was opened.
     pub opened: Snapshot<ClientEnd>,
-    /// What its hands have of it, by their numbers, before it is dealt out and after it came back. In between it is their room.
+    /// What its hands have of it, by their numbers, before it is dealt out and after it came back.
+    /// In between it is their room.
     pub hands: Vec<SessionHand>,
 }

@@ -1,7 +1,7 @@
 //! How one session ended.
 ghost use Rattle.std.specs.Prelude.{◌≡◌, ◌<◌, true, length};
 ghost use Rattle.host_session.specs.Keeping.{AreKeptAs};
-ghost use Rattle.host_worker.specs.SessionEnds.{HasPut, IsReportOf};
+ghost use Rattle.host_worker.specs.SessionEnds.{HasPutReport, IsSessionReportOf};
 
 use host_block::Range;
 use host_log::{SwitchLog, Told};
@@ -34,7 +34,7 @@ impl SessionEnd {
     // The report of a session whose histories are kept.
     fn into_report(self) -> SessionReport
         requires { AreKeptAs true self.logs }
-        ensures { IsReportOf self result }
+        ensures { IsSessionReportOf self result }
     {
         let SessionEnd {
             number,
@@ -69,7 +69,7 @@ impl SessionEnd {
 pub(crate) fn put_end(ends: &mut SessionEnds, end: SessionEnd)
     requires room { length ends.old.items < ends.old.room }
     requires kept { AreKeptAs ends.old.kept end.logs }
-    ensures { HasPut end ends.old ends.new }
+    ensures { HasPutReport end ends.old ends.new }
 {
     if ends.is_kept() {
         ends.push(end.into_report());

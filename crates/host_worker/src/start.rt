@@ -1,5 +1,6 @@
 //! A server is started.
-ghost use Rattle.std.specs.Prelude.{◌≡◌, ◌<◌, ◌≤◌, [], ◌∷◌, ◌++◌, MatchResult, None, vec_len, vec_capacity};
+ghost use Rattle.std.specs.Prelude.{◌≡◌, ◌<◌, ◌≤◌, [], ◌∷◌, ◌++◌, MatchResult, None, vec_len};
+ghost use Rattle.std.specs.Prelude.{vec_capacity};
 ghost use Rattle.host_device.specs.Seen.{shape_of, steps_of};
 ghost use Rattle.host_worker.specs.Shares.{specs_of};
 ghost use Rattle.host_worker.specs.Starts.{AreSpecs, IsPrepared, IsStarted};
@@ -18,7 +19,9 @@ use host_turn::{Book, BookSeat, NoBook};
 use std::alloc::Global;
 
 impl<D: Disk> Server<D> {
-    /// Starts a server over a device without steps: a session for each spec, all for so many hands. The memory of a run is taken here, but for the bytes of steps, room that hands make, and lists of claimed pages.
+    /// Starts a server over a device without steps: a session for each spec, all for so many hands.
+    /// The memory of a run is taken here, but for the bytes of steps, room that hands make, and
+    /// lists of claimed pages.
     pub fn start(
         alloc: Global,
         device: Device<D>,
@@ -29,7 +32,8 @@ impl<D: Disk> Server<D> {
         requires hands { (1 ≤ hands) × (hands ≤ 4294967293) }
         requires device { ((steps_of device).items ≡ []) × ((shape_of device).size ≡ size) }
         requires specs { AreSpecs (steps_of device).kept (shape_of device).blocks size specs.now }
-        ensures { MatchResult result (λ started. IsStarted device specs.now hands started) (λ refused. refused.device ≡ device) }
+        ensures { MatchResult result (λ started. IsStarted device specs.now hands started)
+            (λ refused. refused.device ≡ device) }
     {
         match prepare(alloc, specs, hands, size, device.is_kept()) {
             Ok(prepared) => open_server(alloc, device, hands, prepared),
@@ -47,9 +51,13 @@ fn open_server<D: Disk>(
 ) -> Result<Started<D>, NoServer<D>>
     requires some { 1 ≤ hands }
     requires device { (steps_of device).items ≡ [] }
-    requires specs { AreSpecs (steps_of device).kept (shape_of device).blocks (shape_of device).size (specs_of prepared.opened.sessions.items) }
-    requires prepared { IsPrepared (specs_of prepared.opened.sessions.items) hands (shape_of device).size (steps_of device).kept prepared }
-    ensures { MatchResult result (λ started. IsStarted device (specs_of prepared.opened.sessions.items) hands started) (λ refused. refused.device ≡ device) }
+    requires specs { AreSpecs (steps_of device).kept (shape_of device).blocks (shape_of device).size
+        (specs_of prepared.opened.sessions.items) }
+    requires prepared { IsPrepared (specs_of prepared.opened.sessions.items) hands
+        (shape_of device).size (steps_of device).kept prepared }
+    ensures { MatchResult result
+        (λ started. IsStarted device (specs_of prepared.opened.sessions.items) hands started)
+        (λ refused. refused.device ≡ device) }
 {
     let Prepared {
         pool,
@@ -97,7 +105,8 @@ fn make_hand<D: Disk>(
     shares: &mut Vec<Vec<SessionHand>>,
 ) -> Hand<D>
     requires some { (0 < vec_len pool_seats.old) × (0 < vec_len shares.old) }
-    ensures hand { (result.number ≡ number) × (result.device_seat ≡ device_seat) × (result.next ≡ 0) × (result.room ≡ None) }
+    ensures hand { (result.number ≡ number) × (result.device_seat ≡ device_seat) × (result.next ≡ 0)
+        × (result.room ≡ None) }
     ensures pool { pool_seats.old.items ≡ pool_seats.new.items ++ result.pool_seat ∷ [] }
     ensures share { shares.old.items ≡ shares.new.items ++ result.sessions ∷ [] }
     ensures room { (vec_capacity pool_seats.new ≡ vec_capacity pool_seats.old) }

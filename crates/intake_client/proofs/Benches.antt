@@ -2,19 +2,11 @@
 use Rattle.std.proofs.Common.{◌≡◌, ℕ, [], ◌∷◌, ◌++◌, length, Option, Some, None, ap, ◌∙◌, arith}
 use Rattle.std.proofs.lemmas.Option.{slice_get_within}
 use Rattle.host_memory.proofs.Pushed.{filter_map_skip}
-use Rattle.host_group.specs.Seats.{seat_cells}
-use Rattle.host_turn.specs.Seats.{IsOutside, IsSameSeat, number, seat_book}
-use Rattle.host_intake.specs.declared.entry.IntakeEntry.{IntakeEntry}
-use Rattle.host_intake.specs.Entries.{landing_of, landings, taking_of, takings}
-use Rattle.host_intake.specs.declared.plan.IntakePlan.{IntakePlan}
-use Rattle.host_intake.specs.State.{IntakeState, MemorySeat, plan_of}
+use Rattle.host_group.specs.{seat_cells}
+use Rattle.host_turn.specs.{IsOutside, IsSameSeat, number, seat_book}
+use Rattle.host_intake.specs.{IntakeEntry, landing_of, landings, taking_of, takings, IntakePlan, IntakeState, MemorySeat, plan_of_intake}
 use Rattle.intake_client.specs.declared.bench.Bench.TheInside.{Inside}
-use Rattle.intake_client.specs.declared.flight.Flight.{Flight}
-use Rattle.intake_client.specs.Benched.{IsKept}
-use Rattle.intake_client.specs.declared.taken.Taken.{Taken}
-use Rattle.intake_client.specs.declared.taken.Taken.TheVariants.{AtLimit, Finished, Flying, NoRecord, Stalled, Waits}
-use Rattle.intake_client.specs.Flights.{Flies, FliesIfAny, HasLanded, IsOtherThan}
-use Rattle.intake_client.specs.Takes.{IsBeside, IsTaken}
+use Rattle.intake_client.specs.{Flight, IsKept, Taken, AtLimit, Finished, Flying, NoRecord, Stalled, Waits, Flies, FliesIfAny, HasLanded, IsOtherThan, IsBeside, IsTaken}
 use Rattle.intake_client.proofs.Flying.{flies_same}
 use Rattle.intake_client.proofs.Landings.{flies_landed}
 
@@ -56,7 +48,7 @@ beside s z o Waits k m = tt
 beside s z o (Flying f) k m = next_other s f.envelope.index o k.0 m
 
 -- the next record was taken
-pub kept_taken : (a : Inside) (z : IntakeState) (q : MemorySeat) → IsKept a → plan_of z ≡ plan_of a.intake → IsSameSeat a.hand q × IsOutside q → ((f : Flight) → Flies 0 a.intake f → Flies 0 z f) → IsKept (record a { hand = q; intake = z })
+pub kept_taken : (a : Inside) (z : IntakeState) (q : MemorySeat) → IsKept a → plan_of_intake z ≡ plan_of_intake a.intake → IsSameSeat a.hand q × IsOutside q → ((f : Flight) → Flies 0 a.intake f → Flies 0 z f) → IsKept (record a { hand = q; intake = z })
 kept_taken a z q k plan seat flies = record {
   seat = (seat.0.0 ∙ k.seat.0, seat.1);
   of_memory = ap (λ (p : IntakePlan). p.memory) plan ∙ k.of_memory;

@@ -8,33 +8,16 @@ use Rattle.std.proofs.lemmas.Option.{slice_get_within}
 use Rattle.atomic_table.specs.Seated.{TableId}
 use Rattle.host_record.specs.declared.status.Status.{Status}
 use Rattle.host_model.specs.declared.verdict.Verdict.{Verdict}
-use Rattle.host_model.specs.declared.verdict.Verdict.TheVariants.{Accepted, Refused}
-use Rattle.host_model.specs.Log.{request_at}
-use Rattle.host_model.specs.Verdict.{is_accepted}
+use Rattle.host_model.specs.{Accepted, Refused, request_at, is_accepted}
 use Rattle.host_memory.proofs.Pushed.{filter_map_skip, filter_map_add}
-use Rattle.host_group.specs.declared.seat.CellSeat.{CellSeat}
-use Rattle.host_group.specs.Seats.{seat_cells}
-use Rattle.host_rings.specs.declared.envelope.Envelope.{Envelope}
-use Rattle.host_intake.specs.declared.plan.IntakePlan.{IntakePlan}
-use Rattle.host_intake.specs.declared.waiting.Waiting.{Waiting}
-use Rattle.host_intake.specs.Admissions.{entry_for}
-use Rattle.host_intake.specs.Entries.{Taking, Landing, landing_of, landings, place_of, request_in, requests_of, taking_of, takings}
-use Rattle.host_intake.specs.Intaken.{IsIntake}
-use Rattle.host_intake.specs.Members.{AreLanded}
-use Rattle.host_intake.specs.Rights.{HasRight}
-use Rattle.host_intake.specs.State.{IntakeState, plan_of}
-use Rattle.host_intake.specs.Told.{is_flying, is_open}
-use Rattle.host_intake.specs.Waits.{AreWaiting, IsOfTaking, IsWaiting, is_waiting_at}
+use Rattle.host_group.specs.{CellSeat, seat_cells}
+use Rattle.host_rings.specs.{Envelope}
+use Rattle.host_intake.specs.{IntakePlan, Waiting, taking_entry, Taking, Landing, landing_of, landings, place_of, request_in, requests_of, taking_of, takings, IsIntake, AreLanded, HasRight, IntakeState, plan_of_intake, is_flying, is_open, AreWaiting, IsOfTaking, IsRecordWaiting, is_waiting_at}
 use Rattle.host_intake.proofs.Admitting.{member_same, next_open}
-use Rattle.host_intake.proofs.Judging.{get_last, get_more}
+use Rattle.host_intake.proofs.Judging.{get_more}
+use Rattle.host_log.proofs.Places.{get_last, none_at}
 use Rattle.host_intake.proofs.Pushing.{open_landed}
-use Rattle.intake_client.specs.declared.flight.Flight.{Flight}
-use Rattle.intake_client.specs.Flights.{CanLand, Flies, IsFlying, IsTakenSo}
-
--- none of a list passes
-none_at : {A : Type 0} (p : A → Bool) (xs : List A) → ((n : ℕ) (x : A) → slice_get xs n ≡ Some x → p x ≡ false) → list_any p xs ≡ false
-none_at p [] h = refl
-none_at p (x ∷ xs) h = ap (λ b. b || list_any p xs) (h 0 x refl) ∙ none_at p xs (λ n y e. h (suc n) y e)
+use Rattle.intake_client.specs.{Flight, CanLand, Flies, IsFlying, IsTakenSo}
 
 -- no close waits of a record that was taken without waiting
 pub none_waits : (cells : TableId) (ts : List Taking) (ls : List Landing) (ws : List Waiting) (i : ℕ) (t : Taking) → AreWaiting cells ts ls ws → slice_get ts i ≡ Some t → t.waits ≡ false → list_any (is_waiting_at i) ws ≡ false
@@ -43,7 +26,7 @@ none_waits cells ts ls ws i t k at still = none_at (is_waiting_at i) ws (λ n w 
     step : (w : Waiting) → (((w.envelope.index == i) ≡ true) × (w.envelope.index ≡ i)) ⊎ (((w.envelope.index == i) ≡ false) × (w.envelope.index ≢ i)) → IsOfTaking cells ts ls w → is_waiting_at i w ≡ false
     step w (inr s) m = s.0
     step w (inl s) m =
-        let x : IsWaiting cells ts ls w t = subst (λ (o : Option Taking). MatchOption o ⊥ (λ u. IsWaiting cells ts ls w u)) (ap (λ j. slice_get ts j) s.1 ∙ at) m in
+        let x : IsRecordWaiting cells ts ls w t = subst (λ (o : Option Taking). MatchOption o ⊥ (λ u. IsRecordWaiting cells ts ls w u)) (ap (λ j. slice_get ts j) s.1 ∙ at) m in
         absurd (let f : true ≡ false = sym x.waits ∙ still in cc)
 
 -- ---- as others are taken and end
@@ -75,10 +58,10 @@ flies_same hand s z f cells ts ls k =
     (subst (λ (a : List Taking). IsFlying hand (seat_cells s.cell_seat) a (landings z.entries) f) (sym ts)
     (subst (λ (a : List Landing). IsFlying hand (seat_cells s.cell_seat) (takings s.entries) a f) (sym ls) k))
 
-pub flies_taken : (hand : ℕ) (s z : IntakeState) (f : Flight) (t : Taking) → seat_cells z.cell_seat ≡ seat_cells s.cell_seat → z.entries ≡ s.entries ++ entry_for t ∷ [] → Flies hand s f → Flies hand z f
+pub flies_taken : (hand : ℕ) (s z : IntakeState) (f : Flight) (t : Taking) → seat_cells z.cell_seat ≡ seat_cells s.cell_seat → z.entries ≡ s.entries ++ taking_entry t ∷ [] → Flies hand s f → Flies hand z f
 flies_taken hand s z f t cells more k =
-    let ts : takings z.entries ≡ takings s.entries ++ t ∷ [] = ap takings more ∙ filter_map_add taking_of s.entries (entry_for t) t refl in
-    let ls : landings z.entries ≡ landings s.entries = ap landings more ∙ filter_map_skip landing_of s.entries (entry_for t) refl in
+    let ts : takings z.entries ≡ takings s.entries ++ t ∷ [] = ap takings more ∙ filter_map_add taking_of s.entries (taking_entry t) t refl in
+    let ls : landings z.entries ≡ landings s.entries = ap landings more ∙ filter_map_skip landing_of s.entries (taking_entry t) refl in
     subst (λ (a : TableId). IsFlying hand a (takings z.entries) (landings z.entries) f) (sym cells)
     (subst (λ (a : List Taking). IsFlying hand (seat_cells s.cell_seat) a (landings z.entries) f) (sym ts)
     (subst (λ (a : List Landing). IsFlying hand (seat_cells s.cell_seat) (takings s.entries ++ t ∷ []) a f) (sym ls)
@@ -86,7 +69,7 @@ flies_taken hand s z f t cells more k =
 
 -- ---- as it is taken
 
-module _ (s z : IntakeState) (k : IsIntake s) (plan : plan_of z ≡ plan_of s) (t : Taking) (more : z.entries ≡ s.entries ++ entry_for t ∷ []) where
+module _ (s z : IntakeState) (k : IsIntake s) (plan : plan_of_intake z ≡ plan_of_intake s) (t : Taking) (more : z.entries ≡ s.entries ++ taking_entry t ∷ []) where
   pub cells_same : seat_cells z.cell_seat ≡ seat_cells s.cell_seat
   cells_same = ap (λ (p : IntakePlan). p.cells) plan
 
@@ -97,8 +80,8 @@ module _ (s z : IntakeState) (k : IsIntake s) (plan : plan_of z ≡ plan_of s) (
   pub taken_new : (e : Envelope) (right : Option CellSeat) → t.envelope ≡ e → e.index ≡ length (takings s.entries) → HasRight (seat_cells s.cell_seat) (takings z.entries) t right
       → IsTakenSo (seat_cells z.cell_seat) (takings z.entries) (landings z.entries) e right t
   taken_new e right is next has =
-      let ts : takings z.entries ≡ takings s.entries ++ t ∷ [] = ap takings more ∙ filter_map_add taking_of s.entries (entry_for t) t refl in
-      let ls : landings z.entries ≡ landings s.entries = ap landings more ∙ filter_map_skip landing_of s.entries (entry_for t) refl in
+      let ts : takings z.entries ≡ takings s.entries ++ t ∷ [] = ap takings more ∙ filter_map_add taking_of s.entries (taking_entry t) t refl in
+      let ls : landings z.entries ≡ landings s.entries = ap landings more ∙ filter_map_skip landing_of s.entries (taking_entry t) refl in
       record {
         at = ap (λ (l : List Taking). slice_get l e.index) ts ∙ (ap (λ n. slice_get (takings s.entries ++ t ∷ []) n) next ∙ get_last (takings s.entries) t);
         envelope = is;

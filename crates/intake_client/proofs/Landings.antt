@@ -3,20 +3,13 @@ use Rattle.std.proofs.Common.{◌≡◌, ◌≢◌, ℕ, Bool, true, false, List
 use Rattle.std.specs.Prelude.{slice_get, unwrap_or}
 use Rattle.atomic_table.specs.Seated.{TableId}
 use Rattle.host_record.specs.declared.request.Request.{Request}
-use Rattle.host_record.specs.Request.{request_of}
-use Rattle.host_model.specs.Log.{request_at}
+use Rattle.host_record.specs.{request_of}
+use Rattle.host_model.specs.{request_at}
 use Rattle.host_memory.proofs.Pushed.{filter_map_add, filter_map_skip}
-use Rattle.host_group.specs.declared.seat.CellSeat.{CellSeat}
-use Rattle.host_group.specs.Seats.{seat_cells}
-use Rattle.host_rings.specs.declared.envelope.Envelope.{Envelope}
-use Rattle.host_rings.specs.declared.slip.Slip.{Slip}
-use Rattle.host_intake.specs.declared.entry.IntakeEntry.TheVariants.{Landed}
-use Rattle.host_intake.specs.declared.entry.RecordEnd.{RecordEnd}
-use Rattle.host_intake.specs.Answers.{answer_owed, lone_slip}
-use Rattle.host_intake.specs.Entries.{Taking, Landing, landing_of, landings, requests_of, taking_of, takings}
-use Rattle.host_intake.specs.State.{IntakeState}
-use Rattle.intake_client.specs.declared.flight.Flight.{Flight}
-use Rattle.intake_client.specs.Flights.{CanLand, Flies, HasLanded, IsFlying}
+use Rattle.host_group.specs.{CellSeat, seat_cells}
+use Rattle.host_rings.specs.{Envelope, Slip}
+use Rattle.host_intake.specs.{Landed, RecordEnd, answer_owed, lone_slip, Taking, Landing, landing_of, landings, requests_of, taking_of, takings, IntakeState}
+use Rattle.intake_client.specs.{Flight, CanLand, Flies, HasLanded, IsFlying}
 use Rattle.intake_client.proofs.Flying.{ended_more, request_there}
 
 -- the request of a record that flies

@@ -1,31 +1,20 @@
 -- What taking the next record tells of the records that fly.
 use Rattle.std.proofs.Common.{◌≡◌, ℕ, ◌==◌, false, not, ◌&&◌, Option, ap, ◌∙◌}
 use Rattle.std.specs.Prelude.{is_some}
-use Rattle.host_frames.specs.Seats.{SeenPages}
+use Rattle.host_frames.specs.{SeenPages}
 use Rattle.host_record.specs.declared.status.Status.{Status}
 use Rattle.host_record.specs.declared.status.Status.TheVariants as status
-use Rattle.host_record.specs.Command.{is_close, opcode}
-use Rattle.host_record.specs.Request.{request_of}
-use Rattle.host_memory.specs.Pins.{pins_on}
-use Rattle.host_group.specs.declared.seat.CellSeat.{CellSeat}
-use Rattle.host_group.specs.Seats.{seat_cells}
-use Rattle.host_rings.specs.declared.envelope.Envelope.{Envelope}
-use Rattle.host_turn.specs.Seats.{seen_by}
-use Rattle.host_intake.specs.declared.admission.Admission.{Admission}
+use Rattle.host_record.specs.{is_close, opcode, request_of}
+use Rattle.host_memory.specs.{pins_on}
+use Rattle.host_group.specs.{CellSeat, seat_cells}
+use Rattle.host_rings.specs.{Envelope}
+use Rattle.host_turn.specs.{seen_by}
+use Rattle.host_intake.specs.{Admission, IntakePlan, IsAdmission, Taking, landings, request_in, takings, IsIntake, IntakeState, MemorySeat, plan_of_intake, judged_on}
 use Rattle.host_intake.specs.declared.admission.Admission.TheVariants as answer
-use Rattle.host_intake.specs.declared.plan.IntakePlan.{IntakePlan}
-use Rattle.host_intake.specs.Admissions.{IsAdmission}
-use Rattle.host_intake.specs.Entries.{Taking, landings, request_in, takings}
-use Rattle.host_intake.specs.Intaken.{IsIntake}
-use Rattle.host_intake.specs.State.{IntakeState, MemorySeat, plan_of}
-use Rattle.host_intake.specs.Takings.{judged_on}
-use Rattle.intake_client.specs.declared.flight.Flight.{Flight}
-use Rattle.intake_client.specs.declared.taken.Taken.TheVariants.{Flying}
-use Rattle.intake_client.specs.Flights.{Flies}
-use Rattle.intake_client.specs.Takes.{IsTaken}
+use Rattle.intake_client.specs.{Flight, Flying, Flies, IsTaken}
 use Rattle.intake_client.proofs.Flying.{admitted_flies, flies_same, flies_taken, refused_flies, taken_new}
 
-module _ (hand : ℕ) (old new : IntakeState) (seat : MemorySeat) (plan : plan_of new ≡ plan_of old) where
+module _ (hand : ℕ) (old new : IntakeState) (seat : MemorySeat) (plan : plan_of_intake new ≡ plan_of_intake old) where
   cells : seat_cells new.cell_seat ≡ seat_cells old.cell_seat
   cells = ap (λ (p : IntakePlan). p.cells) plan
 

@@ -3,26 +3,21 @@ use Rattle.std.proofs.Common.{◌≡◌, ℕ, ◌==◌, false, ◌||◌, nat_lt,
 use Rattle.std.proofs.Math.Bool.{or-true}
 use Rattle.std.specs.Prelude.{slice_get}
 use Rattle.std.specs.List.{list_any}
-use Rattle.host_group.specs.Seats.{seat_cells}
-use Rattle.host_intake.specs.declared.waiting.Waiting.{Waiting}
-use Rattle.host_intake.specs.Entries.{Taking, landings, takings}
-use Rattle.host_intake.specs.State.{IntakeState}
-use Rattle.host_intake.specs.Told.{is_open}
-use Rattle.host_intake.specs.Waits.{HasLeft, IsWaiting, is_waiting_at}
-use Rattle.host_intake.proofs.Ledgering.{and_right}
-use Rattle.intake_client.specs.declared.flight.Flight.{Flight}
-use Rattle.intake_client.specs.Flights.{CanLand, Flies, HasLanded, IsAsMade}
+use Rattle.host_group.specs.{seat_cells}
+use Rattle.host_intake.specs.{Waiting, Taking, landings, takings, IntakeState, is_open, HasLeft, IsRecordWaiting, is_waiting_at}
+use Rattle.host_log.proofs.Bools.{and_right}
+use Rattle.intake_client.specs.{Flight, CanLand, Flies, HasLanded, IsAsMade}
 use Rattle.intake_client.proofs.Flying.{flies_same}
 use Rattle.intake_client.proofs.Landings.{flies_landed, waited_other}
 
 -- the taking of the close
 abbrev OfWaiting : IntakeState → Waiting → Type 0
-OfWaiting s w = (t : Taking) × (slice_get (takings s.entries) w.envelope.index ≡ Some t) × IsWaiting (seat_cells s.cell_seat) (takings s.entries) (landings s.entries) w t
+OfWaiting s w = (t : Taking) × (slice_get (takings s.entries) w.envelope.index ≡ Some t) × IsRecordWaiting (seat_cells s.cell_seat) (takings s.entries) (landings s.entries) w t
 
 taking_found : (i : ℕ) (old new : IntakeState) (w : Waiting) → HasLeft i old new w → OfWaiting old w
 taking_found i old new w k = step (slice_get (takings old.entries) w.envelope.index) refl k.4
   where
-    step : (o : Option Taking) → slice_get (takings old.entries) w.envelope.index ≡ o → MatchOption o ⊥ (λ t. IsWaiting (seat_cells old.cell_seat) (takings old.entries) (landings old.entries) w t) → OfWaiting old w
+    step : (o : Option Taking) → slice_get (takings old.entries) w.envelope.index ≡ o → MatchOption o ⊥ (λ t. IsRecordWaiting (seat_cells old.cell_seat) (takings old.entries) (landings old.entries) w t) → OfWaiting old w
     step None e m = absurd m
     step (Some t) e m = (t, e, m)
 

@@ -15,8 +15,8 @@ pub record BenchState : Type 0 where
 abbrev pub bench_state : Inside → BenchState
 bench_state a = record { intake = a.intake; flight = a.flight }
 
--- The seats of the hand and of the intake are of these buffers and cells, the client's number is 1, and the client
--- counts what it sent.
+-- The seats of the hand and of the intake are of these buffers and cells, the client's number is 1,
+-- and the client counts what it sent.
 pub record IsKept (a : Inside) : Type 0 where
   pub seat : IsSeatOutside a.memory a.hand
   pub of_memory : seat_book a.intake.memory_seat ≡ book_id a.memory

@@ -1,5 +1,6 @@
 -- Records that were taken and have not ended.
-use Rattle.std.specs.Prelude.{◌≡◌, ◌≢◌, ℕ, MatchOption, ◌∷◌, ◌++◌, [], Bool, true, false, ◌==◌, ◌||◌, List, slice_get, Option, Some}
+use Rattle.std.specs.Prelude.{◌≡◌, ◌≢◌, ℕ, MatchOption, ◌∷◌, ◌++◌, [], Bool, true, false, ◌==◌}
+use Rattle.std.specs.Prelude.{◌||◌, List, slice_get, Option, Some}
 use Rattle.std.specs.List.{list_any}
 use Rattle.atomic_table.specs.Seated.{TableId}
 use Rattle.host_group.specs.declared.seat.CellSeat.{CellSeat}
@@ -15,8 +16,10 @@ use Rattle.host_intake.specs.Told.{is_open}
 use Rattle.host_intake.specs.Waits.{is_waiting_at}
 use Rattle.intake_client.specs.declared.flight.Flight.{Flight}
 
--- The record was taken so and has not ended; its right is there where it is a member, and is unused.
-pub record IsTakenSo (cells : TableId) (ts : List Taking) (ls : List Landing) (e : Envelope) (right : Option CellSeat) (t : Taking) : Type 0 where
+-- The record was taken so and has not ended; its right is there where it is a member, and is
+-- unused.
+pub record IsTakenSo (cells : TableId) (ts : List Taking) (ls : List Landing) (e : Envelope)
+    (right : Option CellSeat) (t : Taking) : Type 0 where
   pub at : slice_get ts e.index ≡ Some t
   pub envelope : t.envelope ≡ e
   pub still_open : is_open ls e.index ≡ true
@@ -24,24 +27,34 @@ pub record IsTakenSo (cells : TableId) (ts : List Taking) (ls : List Landing) (e
 
 -- the same of a record that the hand took, and that doesn't wait for pins
 abbrev pub IsFlying : ℕ → TableId → List Taking → List Landing → Flight → Type 0
-IsFlying hand cells ts ls f = (t : Taking) × IsTakenSo cells ts ls f.envelope f.right t × (t.hand ≡ hand) × (t.waits ≡ false)
+IsFlying hand cells ts ls f =
+    (t : Taking) × IsTakenSo cells ts ls f.envelope f.right t × (t.hand ≡ hand) × (t.waits ≡ false)
 
 abbrev pub Flies : ℕ → IntakeState → Flight → Type 0
 Flies hand s f = IsFlying hand (seat_cells s.cell_seat) (takings s.entries) (landings s.entries) f
 
--- The hand may tell the end of that record: the hand took it or it waited for pins, and no close of that index waits.
+-- The hand may tell the end of that record: the hand took it or it waited for pins, and no close of
+-- that index waits.
 abbrev pub CanLand : ℕ → IntakeState → Envelope → Option CellSeat → Type 0
-CanLand hand s e right = (t : Taking) × IsTakenSo (seat_cells s.cell_seat) (takings s.entries) (landings s.entries) e right t
+CanLand hand s e right =
+    (t : Taking)
+    × IsTakenSo (seat_cells s.cell_seat) (takings s.entries) (landings s.entries) e right t
     × ((t.hand == hand || t.waits) ≡ true) × (list_any (is_waiting_at e.index) s.waiting ≡ false)
 
 -- The hand told the end of record i.
 abbrev pub HasLanded : ℕ → ℕ → IntakeState → IntakeState → Type 0
-HasLanded hand i old new = (end : RecordEnd) × (answer : Option Slip) × (kept : Bool)
-    × (new ≡ record old { entries = old.entries ++ Landed hand i end answer kept ∷ []; cell_seat = new.cell_seat }) × (seat_cells new.cell_seat ≡ seat_cells old.cell_seat)
+HasLanded hand i old new =
+    (end : RecordEnd) × (answer : Option Slip) × (kept : Bool)
+    × (new
+    ≡ record old {
+      entries = old.entries ++ Landed hand i end answer kept ∷ [];
+      cell_seat = new.cell_seat;
+    }) × (seat_cells new.cell_seat ≡ seat_cells old.cell_seat)
 
 -- the fixed part of an intake, and which cells it is of, as they were
 abbrev pub IsAsMade : IntakeState → IntakeState → Type 0
-IsAsMade old new = (new.memory_seat ≡ old.memory_seat) × (seat_cells new.cell_seat ≡ seat_cells old.cell_seat)
+IsAsMade old new =
+    (new.memory_seat ≡ old.memory_seat) × (seat_cells new.cell_seat ≡ seat_cells old.cell_seat)
 
 -- the record, if there is one, flies
 abbrev pub FliesIfAny : ℕ → IntakeState → Option Flight → Type 0

@@ -8,7 +8,12 @@ use Rattle.host_turn.specs.Seats.{IsOutside, fixed_part, number, seat_book, seen
 
 -- the fixed part of its buffers
 abbrev pub plan_for : ℕ → TableId × ℕ → MemoryPlan
-plan_for size pool = record { limits = record { size = size; ids = 8; room = 64; records = 128; moves = 8; hands = 1; keeps = true }; pool = pool }
+plan_for size pool =
+    record {
+      limits = record
+          { size = size; ids = 8; room = 64; records = 128; moves = 8; hands = 1; keeps = true };
+      pool = pool;
+    }
 
 -- a new seat of that number at a book of such buffers
 pub record IsSeatFor (book : TableId) (plan : MemoryPlan) (n : ℕ) (q : MemorySeat) : Type 0 where

@@ -9,7 +9,8 @@ use Rattle.intake_client.specs.Flights.{Flies, IsOtherThan}
 
 -- a record that flies is the next one, and the hand took it
 abbrev pub IsTaken : ℕ → IntakeState → IntakeState → Taken → Type 0
-IsTaken hand old new (Flying f) = (f.envelope.index ≡ length (takings old.entries)) × Flies hand new f
+IsTaken hand old new (Flying f) =
+    (f.envelope.index ≡ length (takings old.entries)) × Flies hand new f
 IsTaken hand old new _ = Unit {0}
 
 -- it is another record than the one that flies, if one does

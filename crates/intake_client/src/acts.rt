@@ -54,7 +54,8 @@ pub fn play<R: Wait>(rt: &R, bench: &mut Bench, acts: &[Act]) -> Option<usize> {
     None
 }
 
-/// The same in a session that has just begun, with one buffer of so many pages, given before record `from`. At the end it tells how many rows the session has, if it was closed.
+/// The same in a session that has just begun, with one buffer of so many pages, given before record
+/// `from`. At the end it tells how many rows the session has, if it was closed.
 pub fn play_anew<R: Wait>(
     rt: &R,
     alloc: Global,

@@ -1,6 +1,6 @@
 //! The answers that the end of a record makes due.
 ghost use Rattle.std.specs.Prelude.{◌≡◌};
-ghost use Rattle.host_group.specs.Seats.{IsRight, IsUnused, IsUsed, row};
+ghost use Rattle.host_group.specs.Seats.{IsRight, IsSeatUnused, IsUsed, row};
 ghost use Rattle.host_intake.specs.Answers.{group_slip, lone_slip, row_slip};
 
 use host_group::{CellSeat, Cells, GroupEnd};
@@ -51,10 +51,13 @@ pub(crate) fn settle(
     index: u32,
     end: RecordEnd,
 ) -> Option<Slip>
-    requires right { IsRight cells.now number right.old × IsUnused right.old }
+    requires right { IsRight cells.now number right.old × IsSeatUnused right.old }
     requires index { (row right.old).member.index ≡ index }
-    ensures right { IsRight cells.now number right.new × IsUsed right.new × ((row right.new).member ≡ (row right.old).member) }
-    ensures told { ((row right.new).status ≡ end.outcome) × ((row right.new).device_front ≡ end.device_front) × ((row right.new).memory_front ≡ end.memory_front) }
+    ensures right { IsRight cells.now number right.new × IsUsed right.new
+        × ((row right.new).member ≡ (row right.old).member) }
+    ensures told { ((row right.new).status ≡ end.outcome)
+        × ((row right.new).device_front ≡ end.device_front)
+        × ((row right.new).memory_front ≡ end.memory_front) }
     ensures answer { result ≡ row_slip (row right.new) }
 {
     let ended = cells.settle(

@@ -11,7 +11,8 @@ use host_intake::{Intake, RecordEnd, Waiting};
 use host_record::{Request, Status};
 use host_rings::Envelope;
 
-/// Ends a record that flies, with this outcome. The answer that this makes due, if it makes one, is kept. It tells whether one was.
+/// Ends a record that flies, with this outcome. The answer that this makes due, if it makes one, is
+/// kept. It tells whether one was.
 pub fn land(
     hand: u32,
     intake: &mut Intake,
@@ -51,7 +52,8 @@ pub fn land_flight(hand: u32, intake: &mut Intake, cells: &Cells, flight: Flight
     requires flight { Flies hand intake.old flight }
     requires cells { seat_cells intake.old.cell_seat ≡ cells_id cells.now }
     ensures landed { HasLanded hand flight.envelope.index intake.old intake.new }
-    ensures keeps { (f : Flight) → flight.envelope.index ≢ f.envelope.index → Flies hand intake.old f → Flies hand intake.new f }
+    ensures keeps { (f : Flight) → flight.envelope.index ≢ f.envelope.index
+        → Flies hand intake.old f → Flies hand intake.new f }
 {
     intake.vouch();
     let Flight {
@@ -62,7 +64,8 @@ pub fn land_flight(hand: u32, intake: &mut Intake, cells: &Cells, flight: Flight
     land(hand, intake, cells, &envelope, status, right)
 }
 
-/// Takes a close that waited for pins, and ends it well. It tells whether an answer was kept, and nothing where no close of that index waits. What flies goes on flying.
+/// Takes a close that waited for pins, and ends it well. It tells whether an answer was kept, and
+/// nothing where no close of that index waits. What flies goes on flying.
 pub fn land_waiting(hand: u32, intake: &mut Intake, cells: &Cells, index: u32) -> Option<bool>
     requires cells { seat_cells intake.old.cell_seat ≡ cells_id cells.now }
     ensures made { IsAsMade intake.old intake.new }

@@ -1,4 +1,5 @@
-//! One session's intake on one thread: records are sent, taken, settled, answered and landed by hand.
+//! One session's intake on one thread: records are sent, taken, settled, answered and landed by
+//! hand.
 #![tactic(auto)]
 
 mod acts;

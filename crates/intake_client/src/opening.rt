@@ -4,7 +4,7 @@ ghost use Rattle.atomic_table.specs.Seated.{TableId};
 ghost use Rattle.host_frames.specs.Seats.{page_size, pool_id, seat_pool};
 ghost use Rattle.host_group.specs.Seats.{cells_id, seat_cells};
 ghost use Rattle.host_rings.specs.RequestEnds.{sender_of};
-ghost use Rattle.host_turn.specs.History.{Adds};
+ghost use Rattle.host_log.specs.History.{Adds};
 ghost use Rattle.host_turn.specs.Seats.{IsOutside, book_id, own_entries};
 ghost use Rattle.host_intake.specs.State.{IsForAdmissions};
 ghost use Rattle.intake_client.specs.Opened.{AreBlank, IsSeatFor, plan_for};
@@ -24,7 +24,8 @@ use std::sync::Wait;
 pub(crate) const RECORDS: u32 = 128;
 
 impl Bench {
-    /// A session that has just begun, with one buffer of so many pages, which was given before record `from` was sent. It has `Oom` for an answer only for want of memory, or of frames.
+    /// A session that has just begun, with one buffer of so many pages, which was given before
+    /// record `from` was sent. It has `Oom` for an answer only for want of memory, or of frames.
     pub fn new<R: Wait>(
         rt: &R,
         alloc: Global,
@@ -82,9 +83,12 @@ fn open_memory(
     Oom,
 >
     requires { page_size pool.now ≡ size }
-    ensures admissions { IfOk result (λ r. IsSeatFor (book_id r.0) (plan_for size (pool_id pool.now)) 2 r.1) }
-    ensures client { IfOk result (λ r. IsSeatFor (book_id r.0) (plan_for size (pool_id pool.now)) 1 r.2) }
-    ensures hand { IfOk result (λ r. IsSeatFor (book_id r.0) (plan_for size (pool_id pool.now)) 0 r.3) }
+    ensures admissions { IfOk result
+        (λ r. IsSeatFor (book_id r.0) (plan_for size (pool_id pool.now)) 2 r.1) }
+    ensures client { IfOk result
+        (λ r. IsSeatFor (book_id r.0) (plan_for size (pool_id pool.now)) 1 r.2) }
+    ensures hand { IfOk result
+        (λ r. IsSeatFor (book_id r.0) (plan_for size (pool_id pool.now)) 0 r.3) }
 {
     let limits = MemoryLimits {
         size,
@@ -135,7 +139,8 @@ fn attach<R: Wait>(
     pages: Pages,
     from: u32,
 ) -> u64
-    requires { (size : ℕ) × (pool : TableId × ℕ) × AreBlank size pool pages × IsSeatFor (book_id book.now) (plan_for size pool) 1 seat.old }
+    requires { (size : ℕ) × (pool : TableId × ℕ) × AreBlank size pool pages
+        × IsSeatFor (book_id book.now) (plan_for size pool) 1 seat.old }
 {
     let mut memory = book.enter(rt, seat);
     attach_first(&mut memory, pages, from);
@@ -146,7 +151,8 @@ fn attach<R: Wait>(
 
 // Attaches a buffer, if it has pages and is the first that happens to the memory.
 fn attach_first(memory: &mut Memory, pages: Pages, from: u32) -> bool
-    requires { (size : ℕ) × (pool : TableId × ℕ) × AreBlank size pool pages × (memory.old.plan ≡ plan_for size pool) }
+    requires { (size : ℕ) × (pool : TableId × ℕ) × AreBlank size pool pages
+        × (memory.old.plan ≡ plan_for size pool) }
     ensures adds { Adds (λ e. e.hand) 1 memory.old.entries memory.new.entries }
     ensures plan { memory.new.plan ≡ memory.old.plan }
 {

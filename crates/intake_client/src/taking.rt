@@ -4,7 +4,7 @@ ghost use Rattle.host_group.specs.Seats.{cells_id, seat_cells};
 ghost use Rattle.host_record.specs.Command.{is_close, opcode};
 ghost use Rattle.host_record.specs.Request.{request_of};
 ghost use Rattle.host_turn.specs.Seats.{IsOutside, IsSameSeat, IsSeatOutside, book_id, seat_book};
-ghost use Rattle.host_intake.specs.State.{plan_of};
+ghost use Rattle.host_intake.specs.State.{plan_of_intake};
 ghost use Rattle.intake_client.specs.declared.flight.Flight.{Flight};
 ghost use Rattle.intake_client.specs.Flights.{Flies};
 ghost use Rattle.intake_client.specs.Takes.{IsTaken};
@@ -33,7 +33,7 @@ pub fn take<R: Wait>(
     requires cells { seat_cells intake.old.cell_seat ≡ cells_id cells.now }
     requires seat { IsSeatOutside book.now seat.old }
     ensures seat { IsSameSeat seat.old seat.new × IsOutside seat.new }
-    ensures plan { plan_of intake.new ≡ plan_of intake.old }
+    ensures plan { plan_of_intake intake.new ≡ plan_of_intake intake.old }
     ensures taken { IsTaken hand intake.old intake.new result }
     ensures keeps { (f : Flight) → Flies hand intake.old f → Flies hand intake.new f }
 {
@@ -71,7 +71,8 @@ pub fn take<R: Wait>(
 
 // Whether a record that was admitted is a close that waits.
 fn waits(envelope: &Envelope, pages: &Option<Pages>) -> bool
-    ensures { result ≡ (is_close (opcode (request_of envelope.now.bytes)) && not (is_some pages.now)) }
+    ensures { result
+        ≡ (is_close (opcode (request_of envelope.now.bytes)) && not (is_some pages.now)) }
 {
     let request = Request::from_bytes(&envelope.bytes);
     matches!(request.opcode(), Some(Opcode::Close)) && pages.is_none()

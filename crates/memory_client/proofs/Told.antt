@@ -6,14 +6,10 @@ use Rattle.std.specs.List.{cons_option, find, list_any}
 use Rattle.std.specs.Option.{option_map_or}
 use Rattle.std.proofs.lemmas.Bool.{and_parts, eqb-true, or_parts}
 use Rattle.std.proofs.lemmas.List.Sums.{count_by-le-length, length-filter}
-use Rattle.host_model.specs.declared.memory.MemEvent.{MemEvent}
-use Rattle.host_model.specs.declared.memory.MemEvent.TheVariants.{Attach, Pin}
+use Rattle.host_model.specs.{MemEvent, Attach, Pin, is_close_of, is_pin}
 use Rattle.host_model.specs.declared.memory.MemEvent.TheVariants as mem
-use Rattle.host_model.specs.Releases.{is_close_of, is_pin}
-use Rattle.host_memory.specs.Entries.{is_attach, is_fill_or_show, pin_count, used_room}
-use Rattle.host_memory.specs.Held.{attachment_by, closer_by, closer_of, is_block_of, is_given_by}
-use Rattle.host_memory.specs.Pins.{is_done_for, is_left, is_pin_by, is_pinned_by}
-use Rattle.memory_client.specs.Played.{has_page}
+use Rattle.host_memory.specs.{is_attach_entry, is_fill_or_show, pin_count, used_room, attachment_by, closer_by, closer_of, is_block_of, is_given_by, is_done_for, is_left, is_pin_by, is_pinned_by}
+use Rattle.memory_client.specs.{has_page}
 
 -- ---- the room that entries take
 
@@ -23,13 +19,13 @@ used_step x true false l m n e h = omega arith
 used_step x false true l m n e h = omega arith
 used_step x false false l m n e h = omega arith
 
-not_both : (x : MemEvent) → (is_attach x && is_fill_or_show x) ≡ false
+not_both : (x : MemEvent) → (is_attach_entry x && is_fill_or_show x) ≡ false
 not_both (Attach id pages from) = refl
 not_both _ = refl
 
 pub used_few : (h : List MemEvent) → used_room h ≤ 3 * length h
 used_few [] = omega arith
-used_few (x ∷ xs) = used_step x (is_attach x) (is_fill_or_show x) (filter is_attach xs) (filter is_fill_or_show xs) (length xs) (not_both x) (used_few xs)
+used_few (x ∷ xs) = used_step x (is_attach_entry x) (is_fill_or_show x) (filter is_attach_entry xs) (filter is_fill_or_show xs) (length xs) (not_both x) (used_few xs)
 
 pub pins_few : (h : List MemEvent) → pin_count h ≤ length h
 pins_few h = let few = count_by-le-length is_pin h in let is = length-filter is_pin h in omega arith

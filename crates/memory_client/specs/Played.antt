@@ -1,4 +1,5 @@
--- What a player knows of its memory: the numbers that it was made with, and the pages that an entry tells of.
+-- What a player knows of its memory: the numbers that it was made with, and the pages that an entry
+-- tells of.
 use Rattle.std.specs.Prelude.{◌≡◌, ℕ, Bool, false, nat_lt}
 use Rattle.host_model.specs.declared.memory.MemEvent.{MemEvent}
 use Rattle.host_model.specs.declared.memory.MemEvent.TheVariants.{Attach}

@@ -1,5 +1,6 @@
 //! A player makes the calls of a memory that may be made.
-ghost use Rattle.std.specs.Prelude.{◌≡◌, None, ◌+◌, ◌<◌, ◌≤◌, length, replicate, vec_capacity, IsTrue, IfOk, IfSome};
+ghost use Rattle.std.specs.Prelude.{◌≡◌, None, ◌+◌, ◌<◌, ◌≤◌, length, replicate, vec_capacity};
+ghost use Rattle.std.specs.Prelude.{IsTrue, IfOk, IfSome};
 ghost use Rattle.host_frames.specs.Seats.{contents, page_size, pages_pool, pool_id, seat_pool};
 ghost use Rattle.host_model.specs.Lists.{count};
 ghost use Rattle.host_memory.specs.Entries.{pin_count, used_room};
@@ -30,7 +31,8 @@ const HANDS: u32 = 4;
 /// The hand that closes the session.
 const LAST: u32 = 0;
 
-/// A memory, and beside it the list of what was done to it, by which a player knows which calls it may make.
+/// A memory, and beside it the list of what was done to it, by which a player knows which calls it
+/// may make.
 #[derive(Drop)]
 pub struct Player {
     pub(crate) memory: Memory,
@@ -52,7 +54,10 @@ pub struct Carried {
 fn claimed(alloc: Global, pool: &Pool, seat: &mut PoolSeat) -> Result<Option<Pages>, Oom>
     requires { seat_pool seat.old ≡ pool_id pool.now }
     ensures seat { seat_pool seat.new ≡ pool_id pool.now }
-    ensures pages { IfOk result (λ o. IfSome o (λ p. (contents p ≡ replicate 3 (replicate (page_size pool.now) 0)) × (pages_pool p ≡ pool_id pool.now))) }
+    ensures pages { IfOk result (λ o.
+        IfSome o (λ p.
+        (contents p ≡ replicate 3 (replicate (page_size pool.now) 0))
+        × (pages_pool p ≡ pool_id pool.now))) }
 {
     let mut pages = Pages::with_room(alloc, PAGES)?;
     if pool.claim(seat, PAGES, &mut pages).is_ok() {
@@ -92,8 +97,10 @@ impl Player {
     // Whether two entries more fit.
     fn has_room(&self) -> bool
         ensures fits { IsTrue result → length self.now.done.items + 2 ≤ vec_capacity self.now.done }
-        ensures used { IsTrue result → used_room (history self.now.memory) + 3 ≤ self.now.memory.plan.limits.room }
-        ensures pins { IsTrue result → pin_count (history self.now.memory) < self.now.memory.plan.limits.records }
+        ensures used { IsTrue result
+            → used_room (history self.now.memory) + 3 ≤ self.now.memory.plan.limits.room }
+        ensures pins { IsTrue result
+            → pin_count (history self.now.memory) < self.now.memory.plan.limits.records }
     {
         self.done.len() + 2 <= ENTRIES as usize
     }
@@ -114,7 +121,9 @@ impl Player {
 
     // Whether the record has pinned its buffer.
     fn is_pinned(&self, carried: &Carried) -> bool
-        ensures { IsTrue result → IsTrue (is_pinned_by carried.now.hand carried.now.index carried.now.id (history self.now.memory)) }
+        ensures { IsTrue result
+            → IsTrue (is_pinned_by carried.now.hand carried.now.index carried.now.id
+            (history self.now.memory)) }
     {
         is_pinned(&self.done, carried.hand, carried.index, carried.id)
     }
@@ -134,7 +143,8 @@ impl Player {
         seat: &mut PoolSeat,
         from: u32,
     ) -> Result<Option<u16>, Oom>
-        requires pool { (self.old.memory.plan.pool ≡ pool_id pool.now) × (page_size pool.now ≡ 512) }
+        requires pool { (self.old.memory.plan.pool ≡ pool_id pool.now)
+            × (page_size pool.now ≡ 512) }
         requires seat { seat_pool seat.old ≡ pool_id pool.now }
         ensures plan { self.new.memory.plan ≡ self.old.memory.plan }
         ensures seat { seat_pool seat.new ≡ pool_id pool.now }
@@ -285,7 +295,8 @@ impl Player {
         }
     }
 
-    /// Closes a buffer for a record, where it stands for that and is open. It tells whether its pages left.
+    /// Closes a buffer for a record, where it stands for that and is open. It tells whether its
+    /// pages left.
     pub fn close(&mut self, pool: &Pool, seat: &mut PoolSeat, id: u16, index: u32) -> Option<bool>
         requires pool { self.old.memory.plan.pool ≡ pool_id pool.now }
         requires seat { seat_pool seat.old ≡ pool_id pool.now }
@@ -308,7 +319,8 @@ impl Player {
         }
     }
 
-    /// Lets all pages go that are left, where no record holds a buffer. It tells how many buffers had some, and how many entries there are.
+    /// Lets all pages go that are left, where no record holds a buffer. It tells how many buffers
+    /// had some, and how many entries there are.
     pub fn finish(self, pool: &Pool, seat: &mut PoolSeat) -> Option<(u32, u64)>
         requires pool { self.memory.plan.pool ≡ pool_id pool.now }
         requires seat { seat_pool seat.old ≡ pool_id pool.now }

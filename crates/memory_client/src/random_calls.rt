@@ -39,7 +39,8 @@ struct Game {
 // The calls of a game each tell whether the memory did as the plain model.
 impl Game {
     fn attach_one(&mut self, alloc: Global, pool: &Pool, seat: &mut PoolSeat) -> Result<bool, Oom>
-        requires pool { (self.old.player.memory.plan.pool ≡ pool_id pool.now) × (page_size pool.now ≡ 512) }
+        requires pool { (self.old.player.memory.plan.pool ≡ pool_id pool.now)
+            × (page_size pool.now ≡ 512) }
         requires seat { seat_pool seat.old ≡ pool_id pool.now }
         ensures plan { self.new.player.memory.plan ≡ self.old.player.memory.plan }
         ensures seat { seat_pool seat.new ≡ pool_id pool.now }
@@ -168,7 +169,8 @@ impl Game {
 
     // One call, told by a drawn number.
     fn call(&mut self, alloc: Global, pool: &Pool, seat: &mut PoolSeat, x: u64) -> Result<bool, Oom>
-        requires pool { (self.old.player.memory.plan.pool ≡ pool_id pool.now) × (page_size pool.now ≡ 512) }
+        requires pool { (self.old.player.memory.plan.pool ≡ pool_id pool.now)
+            × (page_size pool.now ≡ 512) }
         requires seat { seat_pool seat.old ≡ pool_id pool.now }
         ensures plan { self.new.player.memory.plan ≡ self.old.player.memory.plan }
         ensures seat { seat_pool seat.new ≡ pool_id pool.now }
@@ -200,7 +202,8 @@ fn play_on(
     seed: u64,
     calls: u32,
 ) -> Result<Tally, Oom>
-    requires pool { (game.old.player.memory.plan.pool ≡ pool_id pool.now) × (page_size pool.now ≡ 512) }
+    requires pool { (game.old.player.memory.plan.pool ≡ pool_id pool.now)
+        × (page_size pool.now ≡ 512) }
     requires seat { seat_pool seat.old ≡ pool_id pool.now }
     ensures plan { game.new.player.memory.plan ≡ game.old.player.memory.plan }
     ensures seat { seat_pool seat.new ≡ pool_id pool.now }
@@ -232,7 +235,8 @@ fn let_all_go(game: &mut Game, pool: &Pool, seat: &mut PoolSeat, calls: u32) -> 
     well
 }
 
-/// Plays a game of so many calls, drawn from a seed, and ends it. It answers none where the end did not go well: a buffer was kept, or a page did not come home.
+/// Plays a game of so many calls, drawn from a seed, and ends it. It answers none where the end did
+/// not go well: a buffer was kept, or a page did not come home.
 pub fn play(alloc: Global, size: BlockSize, seed: u64, calls: u32) -> Result<Option<Tally>, Oom>
     requires { size ≡ 512 }
 {

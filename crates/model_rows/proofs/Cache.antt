@@ -1,6 +1,6 @@
 -- What a cache holds, on small values.
 use Rattle.std.proofs.Common.{refl}
-use Rattle.model_rows.specs.Cache.{CacheIsAsWritten}
+use Rattle.model_rows.specs.{CacheIsAsWritten}
 
 pub cache_is_as_written : CacheIsAsWritten
 cache_is_as_written = record {

@@ -2,10 +2,11 @@
 use Rattle.std.proofs.Common.{◌≡◌, ◌≤◌, ℕ, zero, suc, true, false, [], ◌∷◌, take, Option, Some, refl, lit≤, lit<, ap, sym, subst, arith}
 use Rattle.std.specs.Prelude.{slice_get, unwrap_or, IsTrue}
 use Rattle.host_model.specs.declared.memory.MemEvent.TheVariants as mem
-use Rattle.host_record.specs.Response.{all_zero, is_padded}
-use Rattle.host_rings.specs.declared.slip.Slip.{Slip}
-use Rattle.host_session.specs.Acts.{Act, IsAct, is_answer}
-use Rattle.model_rows.specs.Clients.{attaching, acts, buffers, looking, filling, receiving, answer, other, sending, ClientsAreAsWritten}
+use Rattle.host_record.specs.{all_zero, is_padded}
+use Rattle.host_rings.specs.{Slip}
+use Rattle.host_session.specs.{Act, IsAct, is_answer}
+use Rattle.model_rows.specs.{attaching, acts, looking, filling, receiving, sending, ClientsAreAsWritten}
+use Rattle.model_rows.specs.Clients.{buffers, answer, other}
 
 attaches : IsAct buffers [] attaching
 attaches = record {

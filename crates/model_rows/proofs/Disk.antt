@@ -1,8 +1,8 @@
 -- The disk model on small values.
-use Rattle.std.proofs.Common.{◌≡◌, ℕ, ◌<◌, zero, suc, inl, inr, [], ◌∷◌, refl, arith}
-use Rattle.host_block.specs.Crash.{IsVersion, IsCrashImage}
-use Rattle.host_block.specs.Disk.{block_at, added, fresh, IsCandidate, IsCrashOf, IsCrashInside}
-use Rattle.model_rows.specs.Disk.{image, disk, history, DisksAreAsWritten}
+use Rattle.std.proofs.Common.{ℕ, ◌<◌, zero, suc, inl, inr, [], ◌∷◌, refl, arith}
+use Rattle.host_block.specs.{IsVersion, IsCrashImage, block_at, added, fresh, IsCandidate, IsCrashOf, IsCrashInside}
+use Rattle.model_rows.specs.Disk.{image, history}
+use Rattle.model_rows.specs.{disk, DisksAreAsWritten}
 
 left_over : IsCrashOf disk ((1 ∷ 1 ∷ []) ∷ (3 ∷ 3 ∷ []) ∷ [])
 left_over = record { blocks = refl; each = each }

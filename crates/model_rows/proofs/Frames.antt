@@ -1,8 +1,8 @@
 -- A pool of frames on small values.
 use Rattle.std.proofs.Common.{zero, suc, inl, refl, arith}
-use Rattle.host_frames.specs.Claims.{Covers}
-use Rattle.host_frames.specs.Sums.{frames_in}
-use Rattle.model_rows.specs.Frames.{refused, FramesAreAsWritten}
+use Rattle.host_frames.specs.{Covers, frames_in}
+use Rattle.model_rows.specs.Frames.{refused}
+use Rattle.model_rows.specs.{FramesAreAsWritten}
 
 covers : Covers 3 refused
 covers zero lt = omega arith

@@ -1,7 +1,7 @@
 -- An instance of a group on small values.
 use Rattle.std.proofs.Common.{[], ◌∷◌, refl, arith}
-use Rattle.host_group.specs.Ends.{IsEnd}
-use Rattle.model_rows.specs.Groups.{first_row, end, second_row, third_row, GroupsAreAsWritten}
+use Rattle.host_group.specs.{IsEnd}
+use Rattle.model_rows.specs.{first_row, end, second_row, third_row, GroupsAreAsWritten}
 
 is_end : IsEnd (first_row ∷ second_row ∷ third_row ∷ []) end
 is_end = record {

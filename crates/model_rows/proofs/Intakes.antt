@@ -1,11 +1,9 @@
 -- The history of an intake on worked values.
 use Rattle.std.proofs.Common.{◌≡◌, ℕ, List, length, refl, ap, lit≤, arith}
-use Rattle.host_memory.specs.Pins.{pins_left}
-use Rattle.host_memory.specs.State.{events}
-use Rattle.host_model.specs.Verdict.{judged}
-use Rattle.host_model.specs.declared.memory.MemEntry.{MemEntry}
-use Rattle.host_record.specs.Command.{opcode}
-use Rattle.model_rows.specs.Intakes.{IntakesAreAsWritten}
+use Rattle.host_memory.specs.{pins_left, events}
+use Rattle.host_model.specs.{judged, MemEntry}
+use Rattle.host_record.specs.{opcode}
+use Rattle.model_rows.specs.{IntakesAreAsWritten}
 
 pub intakes_are_as_written : IntakesAreAsWritten
 unfolding opcode judged

@@ -1,19 +1,8 @@
 -- How a session is shown to be lawful by computing.
 use Rattle.std.proofs.Common.{◌+◌, IsTrue, arith, length, take, nat_lt, nat_eq}
 use Rattle.std.specs.List.{list_all, AllByRecursion}
-use Rattle.host_model.specs.Answers.{is_answered_at_most, is_answered_exactly}
-use Rattle.host_model.specs.Buffers.{is_used_rightly}
-use Rattle.host_model.specs.Carrying.{IsCarriedOut}
-use Rattle.host_model.specs.ClientEntries.{IsToldByLog}
-use Rattle.host_model.specs.LawfulSession.{IsLawfulSession}
-use Rattle.host_model.specs.Lists.{same_counts, below, all_with_before}
-use Rattle.host_model.specs.Log.{sent, given}
-use Rattle.host_model.specs.Order.{follows_record, follows_client, precedes_event}
-use Rattle.host_model.specs.Pages.{HasPages}
-use Rattle.host_model.specs.RecordEntries.{HasEntries, names_taken}
-use Rattle.host_model.specs.Releases.{comes_before_release, pins_before_close, released}
+use Rattle.host_model.specs.{is_answered_at_most, is_answered_exactly, is_used_rightly, IsCarriedOut, IsToldByLog, IsLawfulSession, same_counts, below, all_with_before, sent, given, follows_record, follows_client, precedes_event, HasPages, HasEntries, names_taken, comes_before_release, pins_before_close, released, IsTakenInOrder, is_drain}
 use Rattle.host_model.specs.Session.{Session}
-use Rattle.host_model.specs.Taking.{IsTakenInOrder, is_drain}
 use Rattle.host_model.proofs.ListTests.{each_below, tested_below}
 
 module _ (s : Session) where

@@ -1,11 +1,9 @@
 -- Sessions of groups and flushes that are lawful, each shown by computing.
 use Rattle.std.proofs.Common.{◌≡◌, [], ◌∷◌, replicate, refl, lit≤}
-use Rattle.host_model.specs.Answers.{due}
-use Rattle.host_model.specs.LawfulSession.{IsLawfulSession}
-use Rattle.host_model.specs.Verdict.{judged}
-use Rattle.host_record.specs.Command.{opcode}
+use Rattle.host_model.specs.{due, IsLawfulSession, judged}
+use Rattle.host_record.specs.{opcode}
 use Rattle.model_rows.proofs.Lawful.{lawful_from}
-use Rattle.model_rows.specs.Sessions.{failed_group, group_again, open_group, twins}
+use Rattle.model_rows.specs.{failed_group, group_again, open_group, twins}
 
 pub failed_group_is_lawful : IsLawfulSession failed_group
 unfolding opcode judged

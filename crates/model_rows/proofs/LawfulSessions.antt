@@ -1,12 +1,10 @@
 -- Sessions that are lawful, each shown by computing.
 use Rattle.std.proofs.Common.{refl, lit≤}
-use Rattle.host_model.specs.LawfulSession.{IsLawfulSession}
-use Rattle.host_model.specs.Verdict.{judged}
-use Rattle.host_record.specs.Command.{opcode}
+use Rattle.host_model.specs.{IsLawfulSession, judged}
+use Rattle.host_record.specs.{opcode}
 use Rattle.model_rows.proofs.Lawful.{lawful_from}
 use Rattle.model_rows.proofs.LawfulGroups.{failed_group_answer, failed_group_is_lawful, group_again_is_lawful, open_group_is_lawful, twins_is_lawful}
-use Rattle.model_rows.specs.LawfulSessions.{SessionsAreLawful}
-use Rattle.model_rows.specs.Sessions.{read_and_close, faults, realistic, short, closed_buffer, untaken_close, aborted, late_attach}
+use Rattle.model_rows.specs.{SessionsAreLawful, read_and_close, faults, realistic, short, closed_buffer, untaken_close, aborted, late_attach}
 
 pub closed_buffer_is_lawful : IsLawfulSession closed_buffer
 unfolding opcode judged

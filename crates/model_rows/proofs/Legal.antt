@@ -5,8 +5,8 @@ use Rattle.std.proofs.lemmas.Slice.Eq.{bytes_eq-Decides}
 use Rattle.std.specs.List.{list_all}
 use Rattle.std.specs.Option.{option_map_or}
 use Rattle.std.specs.Str.{bytes_eq}
-use Rattle.host_block.specs.Changes.{Change, IsLegal, content, is_read}
-use Rattle.host_model.specs.Lists.{below, implies}
+use Rattle.host_block.specs.{Change, IsLegal, content, is_read}
+use Rattle.host_model.specs.{below, implies}
 use Rattle.host_model.proofs.ListTests.{implied, tested_below}
 
 -- whether the entry at this place is no good read, or has the content of its block

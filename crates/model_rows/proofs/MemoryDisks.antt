@@ -1,6 +1,6 @@
 -- Disks in memory on small values.
 use Rattle.std.proofs.Common.{refl}
-use Rattle.model_rows.specs.MemoryDisks.{MemoryDisksAreAsWritten}
+use Rattle.model_rows.specs.{MemoryDisksAreAsWritten}
 
 pub memory_disks_are_as_written : MemoryDisksAreAsWritten
 memory_disks_are_as_written = record {

@@ -2,10 +2,10 @@
 use Rattle.std.proofs.Common.{◌≡◌, ◌≢◌, ◌∙◌, ℕ, zero, suc, ◌+◌, ◌-◌, ◌≤◌, refl, sym, ap, subst, arith}
 use Rattle.std.specs.Prelude.{◌<◌, slice_index_or}
 use Rattle.host_block.specs.declared.range.Range.{Range}
-use Rattle.host_gpt.specs.declared.entry.Entry.{Entry}
-use Rattle.host_part.specs.Ranges.{IsEntryOf, IsRangeOf}
-use Rattle.host_part.specs.Served.{IsServed, Shares}
-use Rattle.model_rows.specs.Partitions.{layout, entry, PartitionsAreServed}
+use Rattle.host_gpt.specs.{Entry}
+use Rattle.host_part.specs.{IsEntryOf, IsRangeOf, IsServed, Shares}
+use Rattle.model_rows.specs.{layout, PartitionsAreServed}
+use Rattle.model_rows.specs.Partitions.{entry}
 
 first_is_served : IsServed layout (entry 1 34 63)
 first_is_served = record {

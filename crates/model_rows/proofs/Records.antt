@@ -1,10 +1,8 @@
 -- The record codec on worked values.
 use Rattle.std.proofs.Common.{◌≡◌, ℕ, ◌+◌, List, get_or, refl, ap, arith}
-use Rattle.host_record.specs.Command.{opcode}
-use Rattle.host_record.specs.Response.{all_zero, is_padded, response_fields}
-use Rattle.model_rows.specs.Records.{RecordsAreAsWritten}
+use Rattle.host_record.specs.{opcode, all_zero, is_padded, response_fields, status_number}
+use Rattle.model_rows.specs.{RecordsAreAsWritten}
 use Rattle.std.specs.Prelude.{ℤ, pos, negsuc}
-use Rattle.host_record.specs.Status.{status_number}
 use Rattle.host_record.specs.declared.request.Request.{Request}
 use Rattle.host_record.specs.declared.status.Status.{Status}
 use Rattle.host_record.specs.declared.status.Status.TheVariants as status

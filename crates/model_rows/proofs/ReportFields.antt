@@ -3,19 +3,13 @@ use Rattle.std.proofs.Common.{◌≡◌, ◌≢◌, ℕ, zero, suc, ◌<◌, Boo
 use Rattle.std.specs.Prelude.{Contains, slice_index_or}
 use Rattle.host_block.specs.declared.range.Range.{Range}
 use Rattle.host_gpt.proofs.LawLemmas.{one_table}
-use Rattle.host_gpt.specs.Entries.{entries_from, units, used}
-use Rattle.host_gpt.specs.Header.{number_at}
-use Rattle.host_gpt.specs.Table.{IsTable}
-use Rattle.host_gpt.specs.declared.entry.Entry.{Entry}
-use Rattle.host_gpt.specs.declared.which.Which.TheVariants.{Primary}
-use Rattle.host_model.specs.Verdict.{judged}
-use Rattle.host_model.specs.declared.step.Step.{Step}
-use Rattle.host_part.specs.Ranges.{IsRangeOf}
-use Rattle.host_part.specs.Served.{Layout, Shares}
-use Rattle.host_record.specs.Command.{opcode}
-use Rattle.host_report.specs.Lawful.{IsOnTable, closing_flush}
+use Rattle.host_gpt.specs.{entries_from, units, used, number_at, IsTable, Entry, Primary}
+use Rattle.host_model.specs.{judged, Step}
+use Rattle.host_part.specs.{IsRangeOf, Layout, Shares}
+use Rattle.host_record.specs.{opcode}
+use Rattle.host_report.specs.{IsOnTable, closing_flush}
 use Rattle.model_rows.proofs.Table.{is_valid}
-use Rattle.model_rows.specs.ReportFields.{EachReportFieldIsNeeded, ImageIsNeeded, RunIsNeeded, ScriptIsNeeded, beside, its_block, on_partition}
+use Rattle.model_rows.specs.{EachReportFieldIsNeeded, ImageIsNeeded, RunIsNeeded, ScriptIsNeeded, beside, its_block, on_partition}
 use Rattle.model_rows.specs.Table as table
 
 never : false ≡ true → ⊥

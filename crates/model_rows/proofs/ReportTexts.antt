@@ -1,14 +1,12 @@
 -- The run of the realistic session, and its text.
 use Rattle.std.proofs.Common.{◌≡◌, length, refl, ap, arith}
 use Rattle.std.specs.Fmt.{digits}
-use Rattle.host_model.specs.Changes.{changes_of}
-use Rattle.host_model.specs.Verdict.{judged}
-use Rattle.host_record.specs.Command.{opcode}
-use Rattle.host_record.specs.Response.{response_fields}
+use Rattle.host_model.specs.{changes_of, judged}
+use Rattle.host_record.specs.{opcode, response_fields}
 use Rattle.model_rows.proofs.LawfulSessions.{realistic_is_lawful}
 use Rattle.model_rows.proofs.Legal.{legal-from}
-use Rattle.model_rows.specs.ReportTexts.{ReportsAreAsWritten}
-use Rattle.model_rows.specs.Reports.{report, image}
+use Rattle.model_rows.specs.{ReportsAreAsWritten, report}
+use Rattle.model_rows.specs.Reports.{image}
 
 pub reports_are_as_written : ReportsAreAsWritten
 unfolding digits response_fields opcode judged

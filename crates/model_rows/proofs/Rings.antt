@@ -1,11 +1,9 @@
 -- The histories of rings on small values.
 use Rattle.std.proofs.Common.{◌≡◌, ℕ, zero, suc, ◌<◌, true, [], ◌∷◌, length, sym, refl, ap, arith}
-use Rattle.host_block.specs.Lists.{IsPrefix}
-use Rattle.host_rings.specs.Places.{EachPlace}
-use Rattle.host_rings.specs.RequestRule.{IsNumbered}
-use Rattle.host_rings.specs.Slips.{sent_by}
-use Rattle.host_rings.specs.declared.envelope.Envelope.{Envelope}
-use Rattle.model_rows.specs.Rings.{c, a, second, b, first, RingsAreAsWritten}
+use Rattle.host_block.specs.{IsPrefix}
+use Rattle.host_rings.specs.{EachPlace, IsNumbered, slips_sent_by, Envelope}
+use Rattle.model_rows.specs.{c, a, b, RingsAreAsWritten}
+use Rattle.model_rows.specs.Rings.{second, first}
 use mathlib.Core.Option.{some-injective, some-ne-none}
 
 numbered : IsNumbered (first ∷ second ∷ [])
@@ -13,7 +11,7 @@ numbered zero x at = ap (λ (y : Envelope). y.index) (sym (some-injective first 
 numbered (suc zero) x at = ap (λ (y : Envelope). y.index) (sym (some-injective second x at))
 numbered (suc (suc k)) x at = absurd (some-ne-none x (sym at))
 
-places : EachPlace (λ k pushed. IsPrefix (sent_by k ((1, b) ∷ (0, a) ∷ [])) pushed) ((a ∷ [])
+places : EachPlace (λ k pushed. IsPrefix (slips_sent_by k ((1, b) ∷ (0, a) ∷ [])) pushed) ((a ∷ [])
     ∷ (b ∷ c ∷ []) ∷ [])
 places zero d near = ([], refl)
 places (suc zero) d near = (c ∷ [], refl)

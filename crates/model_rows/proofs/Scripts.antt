@@ -1,17 +1,9 @@
 -- Small texts and what they mean.
 use Rattle.std.proofs.Common.{refl}
 use Rattle.hex.specs.Hex.{decode_pairs}
-use Rattle.host_record.specs.Command.{opcode}
-use Rattle.model_rows.specs.Scripts.{TextsAreScripts}
-use Rattle.script_model.specs.Arguments.{has_count, group_bits, group_number}
-use Rattle.script_model.specs.Draft.{added, may_stand, may_wait, meaning}
-use Rattle.script_model.specs.Generate.{next, request_from, request_line, session_from}
-use Rattle.script_model.specs.Keyword.{keyword_of}
-use Rattle.script_model.specs.Limit.{moved_by, moved_by_lines, has_many_records, limit_of}
-use Rattle.script_model.specs.Lines.{session_line, attach_line, fill_line, flush_line, wait_line, end_line, statement, show_line, transfer_line, trim_line}
-use Rattle.script_model.specs.Numbers.{decimal_value, number, hex_bytes}
-use Rattle.script_model.specs.Owed.{owed}
-use Rattle.script_model.specs.Script.{after_line}
+use Rattle.host_record.specs.{opcode}
+use Rattle.model_rows.specs.{TextsAreScripts}
+use Rattle.script_model.specs.{has_count, group_bits, group_number, added, may_stand, may_wait, meaning, next, request_from, request_line, session_from, keyword_of, moved_by, moved_by_lines, has_many_records, limit_of, session_line, attach_line, fill_line, flush_line, wait_line, end_line, statement, show_line, transfer_line, trim_line, decimal_value, number, hex_bytes, owed, after_line}
 
 pub texts_are_scripts : TextsAreScripts
 unfolding after_line meaning added may_stand may_wait keyword_of statement session_line attach_line

@@ -1,8 +1,8 @@
 -- Each field of a lawful session refuses a session.
 use Rattle.std.proofs.Common.{◌≡◌, ℕ, ◌≤◌, true, false, List, [], length, get_or, refl, lit≤, lit<, ap, arith}
-use Rattle.host_model.specs.Verdict.{judged}
-use Rattle.host_record.specs.Command.{opcode}
-use Rattle.model_rows.specs.SessionFields.{AnswersAreNeeded, BuffersAreNeeded, CarryingIsNeeded, EachSessionFieldIsNeeded, OrderIsNeeded, TakingIsNeeded}
+use Rattle.host_model.specs.{judged}
+use Rattle.host_record.specs.{opcode}
+use Rattle.model_rows.specs.{AnswersAreNeeded, BuffersAreNeeded, CarryingIsNeeded, EachSessionFieldIsNeeded, OrderIsNeeded, TakingIsNeeded}
 
 never : false ≡ true → ⊥
 never e = cc e

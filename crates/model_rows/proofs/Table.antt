@@ -1,10 +1,8 @@
 -- The table of a small image.
 use Rattle.std.proofs.Common.{◌≡◌, refl, inl, inr, arith}
-use Rattle.host_gpt.specs.Crc.{crc_of}
-use Rattle.host_gpt.specs.Entries.{entries_from, used, units}
-use Rattle.host_gpt.specs.Header.{Agrees, number_at, header_of}
-use Rattle.host_gpt.specs.Table.{IsValid, array_of}
-use Rattle.model_rows.specs.Table.{image, header_block, TableIsRead}
+use Rattle.host_gpt.specs.{crc_of, entries_from, used, units, Agrees, number_at, header_of, IsValid, array_of}
+use Rattle.model_rows.specs.Table.{image}
+use Rattle.model_rows.specs.{header_block, TableIsRead}
 
 agrees : Agrees 1 header_block
 unfolding number_at

@@ -1,8 +1,9 @@
 -- The history of a lock on small values.
 use Rattle.std.proofs.Common.{◌≡◌, ℕ, inl, inr, [], ◌∷◌, length, refl, ap, arith}
 use Rattle.std.proofs.lemmas.List.Elements.{All-nil, All-cons}
-use Rattle.host_turn.specs.History.{Continues}
-use Rattle.model_rows.specs.Turns.{maker, history, TurnsAreAsWritten}
+use Rattle.host_log.specs.{Continues}
+use Rattle.model_rows.specs.{maker, TurnsAreAsWritten}
+use Rattle.model_rows.specs.Turns.{history}
 
 goes_on : Continues maker 1 ((0, 7) ∷ (1, 8) ∷ []) history
 goes_on = (((0, 9) ∷ [], refl), refl)
@@ -24,7 +25,7 @@ turns_are_as_written = record {
   misses_its_own = λ c. let n : ◌≡◌ {A = ℕ} 2 1 = ap length c.1 in omega arith;
   second_longer = refl;
   first_as_long = refl;
-  member = record { begins = goes_on.0; all_own = refl; numbered = omega arith };
+  member = (goes_on, omega arith);
   two_tickets = refl;
   three_seats = refl;
   its_member = refl;

@@ -1,8 +1,8 @@
 -- Verdicts, by computing.
 use Rattle.std.proofs.Common.{refl}
-use Rattle.host_model.specs.Verdict.{judged}
-use Rattle.host_record.specs.Command.{opcode}
-use Rattle.model_rows.specs.Verdicts.{EachCheckRefuses, FirstCheckDecides, VerdictsAreAsWritten}
+use Rattle.host_model.specs.{judged}
+use Rattle.host_record.specs.{opcode}
+use Rattle.model_rows.specs.{EachCheckRefuses, FirstCheckDecides, VerdictsAreAsWritten}
 
 each : EachCheckRefuses
 unfolding opcode judged

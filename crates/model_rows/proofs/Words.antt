@@ -1,9 +1,7 @@
 -- Words that are written out.
 use Rattle.std.proofs.Common.{refl}
-use Rattle.host_words.specs.Commands.{command_named, run_meaning, list_meaning, make_meaning, load_meaning}
-use Rattle.host_words.specs.Given.{given_after}
-use Rattle.host_words.specs.Numbers.{block_size, number}
-use Rattle.model_rows.specs.Words.{WordsAreCommands}
+use Rattle.host_words.specs.{command_named, run_meaning, list_meaning, make_meaning, load_meaning, given_after, block_size, number}
+use Rattle.model_rows.specs.{WordsAreCommands}
 
 pub words_are_commands : WordsAreCommands
 unfolding command_named given_after run_meaning list_meaning make_meaning load_meaning number

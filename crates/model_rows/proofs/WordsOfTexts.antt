@@ -1,6 +1,6 @@
 -- Bytes and blocks as a text has them.
 use Rattle.std.proofs.Common.{◌≡◌, ℕ, List, get_or, refl, ap, arith}
-use Rattle.model_rows.specs.WordsOfTexts.{BytesArePrinted}
+use Rattle.model_rows.specs.{BytesArePrinted}
 
 abbrev first_of : List ℕ → ℕ
 first_of xs = get_or xs 0 0

@@ -1,10 +1,10 @@
 -- Runs that differ in one thing from the realistic one.
 use Rattle.std.proofs.Common.{◌≡◌, ℕ, ◌≤◌, true, false, List, [], ◌∷◌, length, refl, lit<, ap, arith}
-use Rattle.host_model.specs.Verdict.{judged}
-use Rattle.host_record.specs.Command.{opcode}
+use Rattle.host_model.specs.{judged}
+use Rattle.host_record.specs.{opcode}
 use Rattle.host_report.proofs.Ranges.{ranges_lie_in_image}
 use Rattle.model_rows.specs.Reports.{image}
-use Rattle.model_rows.specs.WrongReports.{WrongReportsAreRefused}
+use Rattle.model_rows.specs.{WrongReportsAreRefused}
 
 never : false ≡ true → ⊥
 unfolding opcode judged

@@ -1,9 +1,8 @@
 -- Sessions that differ in one thing from lawful ones.
 use Rattle.std.proofs.Common.{◌≡◌, true, false, length, refl, lit≤, lit<, take, ap, arith}
-use Rattle.host_model.specs.Log.{received}
-use Rattle.host_model.specs.Verdict.{judged}
-use Rattle.host_record.specs.Command.{opcode}
-use Rattle.model_rows.specs.WrongSessions.{WrongSessionsAreRefused}
+use Rattle.host_model.specs.{received, judged}
+use Rattle.host_record.specs.{opcode}
+use Rattle.model_rows.specs.{WrongSessionsAreRefused}
 
 never : false ≡ true → ⊥
 unfolding opcode judged

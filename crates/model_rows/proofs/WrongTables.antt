@@ -1,10 +1,8 @@
 -- Wrong headers and arrays, and a backup.
 use Rattle.std.proofs.Common.{◌≡◌, ℕ, ◌*◌, ◌^◌, ◌<◌, ◌≤◌, inl, inr, List, get_or, refl, lit<, lit≤, ap, arith}
-use Rattle.host_gpt.specs.Header.{Agrees, number_at}
-use Rattle.host_gpt.specs.Entries.{used}
-use Rattle.host_gpt.specs.Table.{IsValid}
+use Rattle.host_gpt.specs.{Agrees, number_at, used, IsValid}
 use Rattle.model_rows.proofs.Table.{is_valid}
-use Rattle.model_rows.specs.WrongTables.{BackupIsTaken, WrongArraysAreRefused, WrongHeadersAreRefused, WrongTablesAreRefused, backup_block, damaged}
+use Rattle.model_rows.specs.{BackupIsTaken, WrongArraysAreRefused, WrongHeadersAreRefused, WrongTablesAreRefused, backup_block, damaged}
 
 abbrev first_of : List ℕ → ℕ
 first_of xs = get_or xs 0 0

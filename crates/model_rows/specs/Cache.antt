@@ -2,7 +2,8 @@
 use Rattle.std.specs.Prelude.{◌≡◌, ℕ, Some, None, List, [], ◌∷◌}
 use Prim.Native.Nat.{zero, suc}
 use Rattle.host_block.specs.Disk.{DiskState, fresh, done, failed, write}
-use Rattle.host_cache.specs.Calls.{clean_line, dirty_line, victim_writes, with_room, dirty_below, write_calls, cleaned_below}
+use Rattle.host_cache.specs.Calls.{clean_line, dirty_line, victim_writes, with_room, dirty_below}
+use Rattle.host_cache.specs.Calls.{write_calls, cleaned_below}
 use Rattle.host_cache.specs.Held.{Held, cached, in_front}
 use Rattle.host_cache.specs.declared.line.Line.{Line}
 

@@ -1,13 +1,14 @@
 -- The course of a client: it attaches a buffer, sends a read, receives its answer, fills the
 -- buffer, and is shown none of another.
 use Rattle.std.specs.Prelude.{◌≡◌, ℕ, Bool, true, false, List, [], ◌∷◌, ◌++◌, take, Some, None}
-use Rattle.host_intake.specs.Admissions.{entry_for}
+use Rattle.host_intake.specs.Admissions.{taking_entry}
 use Rattle.host_intake.specs.Answers.{lone_slip}
 use Rattle.host_intake.specs.Takings.{under}
 use Rattle.host_intake.specs.declared.entry.IntakeEntry.{IntakeEntry}
 use Rattle.host_intake.specs.declared.entry.IntakeEntry.TheVariants.{Landed, Passed}
 use Rattle.host_model.specs.declared.event.Event.{Event}
-use Rattle.host_model.specs.declared.event.Event.TheVariants.{Attached, Filled, Shown, Sent, Received}
+use Rattle.host_model.specs.declared.event.Event.TheVariants.{Attached, Filled, Shown, Sent}
+use Rattle.host_model.specs.declared.event.Event.TheVariants.{Received}
 use Rattle.host_model.specs.declared.memory.MemEntry.{MemEntry}
 use Rattle.host_model.specs.declared.memory.MemEvent.TheVariants as mem
 use Rattle.host_record.specs.declared.finish.Finish.TheVariants.{Drain, Abort}
@@ -70,7 +71,7 @@ acts = attaching ∷ sending ∷ receiving ∷ filling ∷ looking ∷ []
 
 -- ---- what keeps a session from being closed
 abbrev pub landed : Bool → List IntakeEntry
-landed kept = entry_for read ∷ Landed 0 0 (ended status.Ok) (Some answer) kept ∷ []
+landed kept = taking_entry read ∷ Landed 0 0 (ended status.Ok) (Some answer) kept ∷ []
 
 pub record ClientsAreAsWritten : Type 0 where
   pub attaches : IsAct buffers [] attaching
@@ -100,7 +101,7 @@ pub record ClientsAreAsWritten : Type 0 where
   pub released_early : ¬ AreLate 1 [] (under 1 (mem.Release 1 ∷ [])) (attaching ∷ sending
       ∷ receiving ∷ [])
   -- a record in flight, an answer kept, a pin: after a drain and after an abort
-  pub undone : (is_undone (Some Abort) (take 2 log) (entry_for read ∷ []) [] ≡ true)
+  pub undone : (is_undone (Some Abort) (take 2 log) (taking_entry read ∷ []) [] ≡ true)
       × (is_undone (Some Abort) (take 2 log) (landed true) [] ≡ true)
       × (is_undone (Some Abort) (take 2 log) (landed false) (under 2 (mem.Pin 0 1 0 ∷ [])) ≡ true)
   -- a record that wasn't taken, or an answer that wasn't received: after a drain alone

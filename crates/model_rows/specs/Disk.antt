@@ -2,7 +2,8 @@
 use Rattle.std.specs.Prelude.{◌≡◌, ℕ, ◌-◌, ◌^◌, true, false, List, [], ◌∷◌}
 use Rattle.host_block.specs.Changes.{Change, content, barrier}
 use Rattle.host_block.specs.Crash.{IsCrashImage}
-use Rattle.host_block.specs.Disk.{DiskState, read_of, added, synced, part_synced, fresh, picked, IsCrashOf, IsCrashInside, write, sync, failed, Leads}
+use Rattle.host_block.specs.Disk.{DiskState, read_of, added, synced, part_synced, fresh, picked}
+use Rattle.host_block.specs.Disk.{IsCrashOf, IsCrashInside, write, sync, failed, Leads}
 use Rattle.host_block.specs.Lists.{IsPrefix}
 use Rattle.host_block.specs.Range.{IsWithin}
 use Rattle.host_block.specs.Room.{spare_of}

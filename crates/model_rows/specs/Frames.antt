@@ -1,9 +1,14 @@
 -- A pool of 70 frames, so of two words.
 use Rattle.std.specs.Prelude.{◌≡◌, ℕ, List, [], ◌∷◌, Some, None}
-use Rattle.host_frames.specs.Claims.{won_by, taken_by, asked_by, Covers, SomeIsRefused}
+use Rattle.host_frames.specs.Claims.{won_by, taken_by, frames_in_claims, Covers, SomeIsRefused}
 use Rattle.host_frames.specs.Homes.{pages_at_home}
-use Rattle.host_frames.specs.Sums.{total, count, claim_bit, frames_in}
-use Rattle.host_frames.specs.Views.{times_to_fetch, times_out, times_held, named_count, share_of, granted_of, won_in, idle_view, view_after_making, new_seat_view, asking_view, looking_view, winning_view, fetching_view, settled_view, packed_view, emptied_view, unpacked_view, reached_view, returned_view, gathered_view}
+use Rattle.host_frames.specs.Sums.{claim_bit, frames_in}
+use Rattle.host_log.specs.Sums.{total, occurrences}
+use Rattle.host_frames.specs.Views.{times_to_fetch, times_out, times_held, named_count, share_of}
+use Rattle.host_frames.specs.Views.{granted_of, won_in, idle_view, view_after_making, new_seat_view}
+use Rattle.host_frames.specs.Views.{asking_view, looking_view, winning_view, fetching_view}
+use Rattle.host_frames.specs.Views.{settled_view, packed_view, emptied_view, unpacked_view}
+use Rattle.host_frames.specs.Views.{reached_view, returned_view, gathered_view}
 use Rattle.host_frames.specs.declared.view.Claim.{Claim}
 use Rattle.host_frames.specs.declared.view.View.{View}
 
@@ -31,9 +36,9 @@ pub record FramesAreAsWritten : Type 0 where
   pub second_word : frames_in 1 2 ≡ 65 ∷ []
   -- a mask of the bits 0 and 1 wins the frame 1 alone
   pub wins_one : won_in 0 3 5 ≡ 1 ∷ []
-  pub twice : count 2 (2 ∷ 3 ∷ 2 ∷ []) ≡ 2
+  pub twice : occurrences 2 (2 ∷ 3 ∷ 2 ∷ []) ≡ 2
   pub won_and_taken : (won_by 1 won.claims ≡ 1) × (taken_by 0 won.claims ≡ 1)
-      × (taken_by 2 won.claims ≡ 1) × (asked_by won.claims ≡ 2)
+      × (taken_by 2 won.claims ≡ 1) × (frames_in_claims won.claims ≡ 2)
   pub to_fetch : (times_to_fetch 1 won ≡ 1) × (granted_of won ≡ 1) × (named_count won ≡ 1)
   pub held : times_held 1 (fetching_view won) ≡ 1
   pub out : times_out 1 (settled_view (fetching_view won)) ≡ 1

@@ -6,7 +6,7 @@ use Rattle.host_group.specs.Failures.{no_failure, failure_word, status_of}
 use Rattle.host_group.specs.Rule.{cell}
 use Rattle.host_group.specs.Seats.{member}
 use Rattle.host_group.specs.Tallies.{rows_tally}
-use Rattle.host_group.specs.Views.{closings, member_count, IsRising, fresh_row}
+use Rattle.host_group.specs.Views.{members_closing, member_count, IsRising, fresh_row}
 use Rattle.host_group.specs.declared.group_end.GroupEnd.{GroupEnd}
 use Rattle.host_group.specs.declared.view.Member.{Member}
 use Rattle.host_group.specs.declared.view.Progress.TheVariants.{Ended, Passed}
@@ -76,7 +76,7 @@ pub record GroupsAreAsWritten : Type 0 where
   pub told_status : (status_of (failure_word 5 NotFound) ≡ NotFound) × (status_of no_failure ≡ Ok)
   pub three : members_of 3 0 admitted ≡ first ∷ second ∷ third ∷ []
   pub in_order : instance_rows 3 0 admitted back ≡ first_row ∷ second_row ∷ third_row ∷ []
-  pub counts : (closings 3 admitted ≡ 1) × (member_count 3 0 admitted ≡ 3)
+  pub counts : (members_closing 3 admitted ≡ 1) × (member_count 3 0 admitted ≡ 3)
       × ((rows_tally 3 0 back).rows ≡ 3)
   pub rises : IsRising (first ∷ second ∷ third ∷ []) 0 14
   -- what the words come to

@@ -3,13 +3,14 @@
 use Rattle.std.specs.Prelude.{◌≡◌, ℕ, true, false, List, [], ◌∷◌, ◌++◌, replicate, Some, None}
 use Rattle.host_block.specs.declared.range.Range.{Range}
 use Rattle.host_group.specs.Seats.{member}
-use Rattle.host_intake.specs.Admissions.{entry_for}
+use Rattle.host_intake.specs.Admissions.{taking_entry}
 use Rattle.host_intake.specs.Answers.{lone_slip}
 use Rattle.host_intake.specs.Entries.{Taking, takings}
 use Rattle.host_intake.specs.Ledgers.{is_course}
 use Rattle.host_intake.specs.Members.{is_lander, member_at}
 use Rattle.host_intake.specs.Takings.{IsJudged, under}
-use Rattle.host_intake.specs.Told.{flights_in, is_flying, kept_slips, memory_front_in, phase_in, rows_in}
+use Rattle.host_intake.specs.Told.{flights_in, is_flying, kept_slips, memory_front_in, phase_in}
+use Rattle.host_intake.specs.Told.{rows_in}
 use Rattle.host_intake.specs.declared.entry.IntakeEntry.{IntakeEntry}
 use Rattle.host_intake.specs.declared.entry.IntakeEntry.TheVariants.{Landed, Passed, Turned}
 use Rattle.host_intake.specs.declared.entry.Phase.TheVariants.{Running, Draining, Aborted, Closed}
@@ -86,8 +87,8 @@ stray_answer = lone_slip (asked 5 11 0 9) 1 (ended status.NotFound)
 -- the close of no buffer ended, with its answer kept; then the read did
 abbrev pub course : List IntakeEntry
 course =
-    entry_for read ∷ entry_for stray ∷ Landed 0 1 (ended status.NotFound) (Some stray_answer) true
-    ∷ entry_for close
+    taking_entry read ∷ taking_entry stray
+    ∷ Landed 0 1 (ended status.NotFound) (Some stray_answer) true ∷ taking_entry close
     ∷ Landed 0 0 (ended status.Ok) (Some (lone_slip (asked 1 10 0 1) 0 (ended status.Ok))) false
     ∷ []
 

@@ -2,7 +2,9 @@
 use Rattle.std.specs.Prelude.{◌≡◌, [], ◌∷◌, replicate}
 use Rattle.host_model.specs.Answers.{due}
 use Rattle.host_model.specs.LawfulSession.{IsLawfulSession}
-use Rattle.model_rows.specs.Sessions.{failed_group, faults, twins, realistic, read_and_close, open_group, short, closed_buffer, untaken_close, group_again, aborted, late_attach}
+use Rattle.model_rows.specs.Sessions.{failed_group, faults, twins, realistic, read_and_close}
+use Rattle.model_rows.specs.Sessions.{open_group, short, closed_buffer, untaken_close, group_again}
+use Rattle.model_rows.specs.Sessions.{aborted, late_attach}
 
 pub record SessionsAreLawful : Type 0 where
   pub failed_group_is_lawful : IsLawfulSession failed_group

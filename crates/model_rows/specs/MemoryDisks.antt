@@ -2,7 +2,7 @@
 use Rattle.std.specs.Prelude.{◌≡◌, ◌^◌, ◌-◌, ℕ, List, [], ◌∷◌, Some, None, Ok, Err}
 use Rattle.host_block.specs.Disk.{fresh, added}
 use Rattle.host_io.specs.Causes.{next_count, faults_after}
-use Rattle.host_io.specs.Copies.{joined, bytes_of}
+use Rattle.host_io.specs.Copies.{joined_blocks, bytes_of}
 use Rattle.host_io.specs.Fails.{part_listed}
 use Rattle.host_io.specs.Flat.{image_of, put_all}
 use Rattle.host_io.specs.MemDisk.{part_written, faults_counted}
@@ -37,7 +37,7 @@ pub record MemoryDisksAreAsWritten : Type 0 where
   pub whole_blocks : image_of 2 bytes ≡ image
   pub put_in_order : put_all 2 bytes ((1, (8 ∷ 8 ∷ [])) ∷ (1, (9 ∷ 9 ∷ [])) ∷ []) ≡ 1 ∷ 2 ∷ 9 ∷ 9
       ∷ 5 ∷ []
-  pub blocks_joined : joined image ≡ 1 ∷ 2 ∷ 3 ∷ 4 ∷ []
+  pub blocks_joined : joined_blocks image ≡ 1 ∷ 2 ∷ 3 ∷ 4 ∷ []
   pub last_write_read : bytes_of (added (fresh image) 0 (7 ∷ 7 ∷ [])) 2 ≡ 7 ∷ 7 ∷ 3 ∷ 4 ∷ []
   pub nothing_done : part_written (fresh image) 0 (7 ∷ 7 ∷ []) 0 ≡ fresh image
   pub write_done : part_written (fresh image) 0 (7 ∷ 7 ∷ []) 1 ≡ added (fresh image) 0 (7 ∷ 7 ∷ [])

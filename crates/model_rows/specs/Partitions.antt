@@ -2,7 +2,7 @@
 use Rattle.std.specs.Prelude.{ℕ, [], ◌∷◌, replicate}
 use Rattle.host_block.specs.declared.range.Range.{Range}
 use Rattle.host_gpt.specs.declared.entry.Entry.{Entry}
-use Rattle.host_part.specs.Ranges.{IsBad, IsRangeOf, IsUnused}
+use Rattle.host_part.specs.Ranges.{IsBad, IsRangeOf, IsNumberUnused}
 use Rattle.host_part.specs.Served.{IsServed, Layout}
 
 abbrev pub entry : ℕ → ℕ → ℕ → Entry
@@ -36,8 +36,8 @@ pub record PartitionsAreServed : Type 0 where
   pub of_none : (range : Range) → ¬ IsRangeOf layout 2 range
   -- which of the two errors it is
   pub bad : IsBad layout 3
-  pub not_unused : ¬ IsUnused layout 3
-  pub unused : IsUnused layout 2
+  pub not_unused : ¬ IsNumberUnused layout 3
+  pub unused : IsNumberUnused layout 2
   pub not_bad : ¬ IsBad layout 2
   -- an entry outside the usable blocks, one that ends before it begins, and usable blocks past the
   -- image

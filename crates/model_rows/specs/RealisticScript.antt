@@ -3,10 +3,11 @@ use Rattle.std.specs.Prelude.{◌≡◌, ℕ, List, [], ◌∷◌, ◌++◌, map
 use Rattle.host_record.specs.Request.{request_bytes}
 use Rattle.host_record.specs.declared.finish.Finish.TheVariants.{Drain}
 use Rattle.model_rows.specs.Reports.{plan, report}
-use Rattle.script_model.specs.Plans.{SessionPlan}
+use Rattle.script_model.specs.Plans.{PlannedSession}
 use Rattle.script_model.specs.Script.{script_of}
 use Rattle.script_model.specs.declared.script.ScriptLine.{ScriptLine}
-use Rattle.script_model.specs.declared.script.ScriptLine.TheVariants.{Attach, Fill, Send, Show, WaitAll}
+use Rattle.script_model.specs.declared.script.ScriptLine.TheVariants.{Attach, Fill, Send, Show}
+use Rattle.script_model.specs.declared.script.ScriptLine.TheVariants.{WaitAll}
 use Rattle.script_played.specs.Played.{PlaysPlans, asked_of}
 
 abbrev pub text : List ℕ
@@ -28,7 +29,7 @@ write command reqid block =
       dev_offset = block;
     }))
 
-abbrev pub plans : List SessionPlan
+abbrev pub plans : List PlannedSession
 plans = record {
   part = 1;
   lines = Attach 8

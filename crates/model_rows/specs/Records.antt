@@ -1,5 +1,6 @@
 -- The bytes of a request and of a response.
-use Rattle.std.specs.Prelude.{◌≡◌, ℕ, negsuc, true, false, List, [], ◌∷◌, ◌++◌, replicate, Some, None}
+use Rattle.std.specs.Prelude.{◌≡◌, ℕ, negsuc, true, false, List, [], ◌∷◌, ◌++◌, replicate, Some}
+use Rattle.std.specs.Prelude.{None}
 use Rattle.host_record.specs.Command.{opcode, is_grouped, is_last, has_unknown_bit}
 use Rattle.host_record.specs.Request.{request_bytes, request_of}
 use Rattle.host_record.specs.Response.{response_bytes, response_of}

@@ -6,7 +6,7 @@ use Rattle.host_gpt.specs.declared.which.Which.TheVariants.{Backup}
 use Rattle.host_model.specs.declared.event.Event.TheVariants.{Filled}
 use Rattle.host_record.specs.declared.finish.Finish.TheVariants.{Abort}
 use Rattle.host_report.specs.Lawful.{IsLawfulRun, IsOfImage, IsOnTable, closing_flush}
-use Rattle.host_report.specs.Played.{IsPlayed, IsPlayedBy}
+use Rattle.host_report.specs.Played.{IsPlayedReport, IsPlayedBy}
 use Rattle.host_report.specs.declared.closing.Closing.TheVariants.{Fault}
 use Rattle.host_report.specs.declared.report.Report.{Report}
 use Rattle.host_report.specs.declared.session.SessionReport.{SessionReport}
@@ -82,8 +82,8 @@ pub record ScriptIsNeeded : Type 0 where
     log = without 6 realistic.log;
   }) 1)
   -- a session that wasn't asked for, and one that is missing
-  pub one_more : ¬ IsPlayed [] report
-  pub missing : ¬ IsPlayed (plan ∷ plan ∷ []) report
+  pub one_more : ¬ IsPlayedReport [] report
+  pub missing : ¬ IsPlayedReport (plan ∷ plan ∷ []) report
 
 pub record EachReportFieldIsNeeded : Type 0 where
   pub image : ImageIsNeeded

@@ -10,8 +10,8 @@ use Rattle.host_record.specs.declared.response.Response.{Response}
 use Rattle.host_record.specs.declared.status.Status.TheVariants as status
 use Rattle.host_report.specs.Lawful.{IsLawfulRun, closing_flush}
 use Rattle.host_report.specs.LogText.{answer_line, event_line}
-use Rattle.host_report.specs.Played.{IsPlayed}
-use Rattle.host_report.specs.StepText.{entry_line, row_line, step_line}
+use Rattle.host_report.specs.Played.{IsPlayedReport}
+use Rattle.host_report.specs.StepText.{memory_entry_line, row_line, step_line}
 use Rattle.host_report.specs.Summary.{is_good_answer, summary_text}
 use Rattle.host_report.specs.Text.{report_text}
 use Rattle.model_rows.specs.Parts.{accepted, cells, refused, step}
@@ -54,7 +54,7 @@ pub record ReportsAreAsWritten : Type 0 where
       ++ codes "steps 10\n"
       ++ codes "closing ok\n"
       ++ codes "end\n"
-  pub played : IsPlayed (plan ∷ []) report
+  pub played : IsPlayedReport (plan ∷ []) report
   pub eight_lines : report_text (record report {
     sessions = in_room (empty ∷ []);
     steps = in_room (closing_flush false ∷ []);
@@ -80,7 +80,7 @@ pub record ReportsAreAsWritten : Type 0 where
       flat_map row_line (enumerate_from 0 (refused status.OutOfRange ∷ accepted status.Io ∷ [])) ≡
       codes "  taken 0 refused -14\n" ++
       codes "  taken 1 accepted -40\n"
-  pub entry_lines : flat_map entry_line (entry (mem.Attach 1 8 0) ∷ entry (mem.Pin 2 1 5)
+  pub entry_lines : flat_map memory_entry_line (entry (mem.Attach 1 8 0) ∷ entry (mem.Pin 2 1 5)
       ∷ entry (mem.Lift 2 0 1 3 (cells 0)) ∷ entry (mem.Release 1) ∷ []) ≡
       codes "  memory attach 1 8 0\n" ++
       codes "  memory pin 2 1\n" ++

@@ -9,7 +9,7 @@ use Rattle.host_model.specs.declared.memory.MemEvent.{MemEvent}
 use Rattle.host_record.specs.Request.{request_bytes}
 use Rattle.host_record.specs.declared.finish.Finish.TheVariants.{Drain}
 use Rattle.host_report.specs.Lawful.{closing_flush}
-use Rattle.host_report.specs.Played.{Ask, Plan, attach, fill, send, show, wait_all}
+use Rattle.host_report.specs.Played.{LineAsk, Plan, attach, fill, send, show, wait_all}
 use Rattle.host_report.specs.declared.closing.Closing.TheVariants.{Good}
 use Rattle.host_report.specs.declared.report.Report.{Report}
 use Rattle.host_report.specs.declared.session.SessionReport.{SessionReport}
@@ -48,7 +48,7 @@ report = record {
 abbrev pub image : List (List ℕ)
 image = replicate 128 (replicate 512 0)
 
-abbrev pub write : ℕ → ℕ → ℕ → Ask
+abbrev pub write : ℕ → ℕ → ℕ → LineAsk
 write command reqid block =
     send (request_bytes (record {
       command = command;

@@ -4,8 +4,8 @@ use Rattle.host_block.specs.Lists.{IsPrefix}
 use Rattle.host_rings.specs.AnswerRule.{HoldsAfter}
 use Rattle.host_rings.specs.Places.{EachPlace}
 use Rattle.host_rings.specs.RequestRule.{IsNumbered, LeftBehind, StillAhead}
-use Rattle.host_rings.specs.RequestViews.{longer}
-use Rattle.host_rings.specs.Slips.{Marked, slips, sent_by, AllBelow, ComeFrom, IsAmong}
+use Rattle.host_log.specs.History.{longer}
+use Rattle.host_rings.specs.Slips.{Marked, slips, slips_sent_by, AllBelow, ComeFrom, IsAmong}
 use Rattle.host_rings.specs.declared.envelope.Envelope.{Envelope}
 use Rattle.host_rings.specs.declared.slip.Slip.{Slip}
 
@@ -37,8 +37,8 @@ abbrev pub history : List Marked
 history = (1, b) ∷ (0, a) ∷ (1, c) ∷ []
 
 pub record RingsAreAsWritten : Type 0 where
-  pub second_longer : longer {A = ℕ} (1 ∷ []) (1 ∷ 2 ∷ []) ≡ 1 ∷ 2 ∷ []
-  pub first_as_long : longer {A = ℕ} (1 ∷ []) (2 ∷ []) ≡ 1 ∷ []
+  pub second_longer : longer {E = ℕ} (1 ∷ []) (1 ∷ 2 ∷ []) ≡ 1 ∷ 2 ∷ []
+  pub first_as_long : longer {E = ℕ} (1 ∷ []) (2 ∷ []) ≡ 1 ∷ []
   pub numbered : IsNumbered (first ∷ second ∷ [])
   pub not_numbered : ¬ IsNumbered (second ∷ [])
   -- both were pushed and the first was taken
@@ -46,12 +46,12 @@ pub record RingsAreAsWritten : Type 0 where
   pub second_ahead : StillAhead (first ∷ []) (first ∷ second ∷ []) (second ∷ [])
   pub not_empty : ¬ StillAhead (first ∷ []) (first ∷ second ∷ []) []
   pub its_slips : slips history ≡ b ∷ a ∷ c ∷ []
-  pub of_the_second : sent_by 1 history ≡ b ∷ c ∷ []
-  pub of_nobody : sent_by 2 history ≡ []
+  pub of_the_second : slips_sent_by 1 history ≡ b ∷ c ∷ []
+  pub of_nobody : slips_sent_by 2 history ≡ []
   pub of_two : AllBelow 2 history
   pub not_of_one : ¬ AllBelow 1 history
-  pub places : EachPlace (λ k pushed. IsPrefix (sent_by k ((1, b) ∷ (0, a) ∷ [])) pushed) ((a ∷ [])
-      ∷ (b ∷ c ∷ []) ∷ [])
+  pub places : EachPlace (λ k pushed. IsPrefix (slips_sent_by k ((1, b) ∷ (0, a) ∷ [])) pushed)
+      ((a ∷ []) ∷ (b ∷ c ∷ []) ∷ [])
   -- c is still in the ring
   pub taken_two : ComeFrom ((a ∷ []) ∷ (b ∷ c ∷ []) ∷ []) (b ∷ a ∷ [])
   pub holds_after : HoldsAfter 1 (b ∷ c ∷ []) (c ∷ [])

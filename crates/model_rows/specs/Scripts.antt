@@ -4,10 +4,14 @@ use Rattle.host_record.specs.declared.finish.Finish.TheVariants.{Drain, Abort}
 use Rattle.script_model.specs.Generate.{next, drawn, generated}
 use Rattle.script_model.specs.Limit.{limit_of, moved_by, moved_by_request}
 use Rattle.script_model.specs.Script.{script_of}
-use Rattle.script_model.specs.declared.cause.ScriptCause.TheVariants.{BadByte, UnknownWord, NoSession, AfterEnd, WrongCount, BadNumber, BadHex, TooMany}
+use Rattle.script_model.specs.declared.cause.ScriptCause.TheVariants.{BadByte, UnknownWord}
+use Rattle.script_model.specs.declared.cause.ScriptCause.TheVariants.{NoSession, AfterEnd}
+use Rattle.script_model.specs.declared.cause.ScriptCause.TheVariants.{WrongCount, BadNumber, BadHex}
+use Rattle.script_model.specs.declared.cause.ScriptCause.TheVariants.{TooMany}
 use Rattle.script_model.specs.declared.limit.Limit.TheVariants.{Sessions, Moved}
 use Rattle.script_model.specs.declared.parse_error.ParseError.TheVariants.{Bad}
-use Rattle.script_model.specs.declared.script.ScriptLine.TheVariants.{Attach, Fill, Show, Send, WaitAll, WaitFor}
+use Rattle.script_model.specs.declared.script.ScriptLine.TheVariants.{Attach, Fill, Show, Send}
+use Rattle.script_model.specs.declared.script.ScriptLine.TheVariants.{WaitAll, WaitFor}
 
 pub record TextsAreScripts : Type 0 where
   -- an empty text, blank lines and comments say nothing

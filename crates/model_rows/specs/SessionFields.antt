@@ -13,12 +13,14 @@ use Rattle.host_model.specs.Releases.{AreReleased}
 use Rattle.host_model.specs.Session.{Session}
 use Rattle.host_model.specs.Taking.{IsTakenInOrder}
 use Rattle.host_model.specs.declared.event.AttachError.TheVariants as attach
-use Rattle.host_model.specs.declared.event.Event.TheVariants.{Aborted, Attached, Drained, Filled, NotAttached, Shown}
+use Rattle.host_model.specs.declared.event.Event.TheVariants.{Aborted, Attached, Drained, Filled}
+use Rattle.host_model.specs.declared.event.Event.TheVariants.{NotAttached, Shown}
 use Rattle.host_model.specs.declared.memory.MemEvent.TheVariants as mem
 use Rattle.host_record.specs.declared.finish.Finish.TheVariants.{Abort}
 use Rattle.host_record.specs.declared.status.Status.TheVariants as status
 use Rattle.model_rows.specs.Parts.{accepted, cells, got, refused, send, step}
-use Rattle.model_rows.specs.Sessions.{failed_group, faults, group_again, open_group, read_and_close, short, twins, untaken_close}
+use Rattle.model_rows.specs.Sessions.{failed_group, faults, group_again, open_group, read_and_close}
+use Rattle.model_rows.specs.Sessions.{short, twins, untaken_close}
 use Rattle.model_rows.specs.WrongSessions.{put_in, without}
 
 -- ---- records

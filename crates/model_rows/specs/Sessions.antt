@@ -3,7 +3,8 @@ use Rattle.std.specs.Prelude.{true, false, [], ◌∷◌, ◌++◌, replicate, �
 use Rattle.host_block.specs.declared.op.Op.TheVariants as op
 use Rattle.host_model.specs.Session.{Session}
 use Rattle.host_model.specs.declared.event.AttachError.TheVariants as attach
-use Rattle.host_model.specs.declared.event.Event.TheVariants.{Attached, NotAttached, Filled, Shown, Drained, Aborted}
+use Rattle.host_model.specs.declared.event.Event.TheVariants.{Attached, NotAttached, Filled, Shown}
+use Rattle.host_model.specs.declared.event.Event.TheVariants.{Drained, Aborted}
 use Rattle.host_model.specs.declared.memory.MemEvent.TheVariants as mem
 use Rattle.host_record.specs.declared.finish.Finish.TheVariants.{Drain, Abort}
 use Rattle.host_record.specs.declared.status.Status.TheVariants as status

@@ -1,8 +1,12 @@
 -- The history of a lock, and its seats: entries are a maker's number with what it said.
 use Rattle.std.specs.Prelude.{◌≡◌, ℕ, List, [], ◌∷◌, Some}
-use Rattle.host_turn.specs.History.{entries_of, Adds, Continues, longer}
+use Rattle.host_log.specs.History.{entries_of, Adds, Continues, longer}
 use Rattle.host_turn.specs.Rule.{IsMember}
-use Rattle.host_turn.specs.Views.{total, tickets_of, share_of, members_of, HasNumber, AnyHasSeen, waiting_view, inside_view, told_view, merged_view, view_after_making, new_seat_view, note_view, gathered_view}
+use Rattle.host_turn.specs.Views.{tickets_of, share_of, members_of, waiting_view, inside_view}
+use Rattle.host_turn.specs.Views.{told_view, merged_view, view_after_making, new_seat_view}
+use Rattle.host_turn.specs.Views.{note_view, gathered_view}
+use Rattle.host_log.specs.Seen.{HasNumber, AnyHasSeen}
+use Rattle.host_log.specs.Sums.{total}
 use Rattle.host_turn.specs.declared.view.Stage.TheVariants.{Maker}
 use Rattle.host_turn.specs.declared.view.View.{View}
 

@@ -4,7 +4,8 @@ use Rattle.host_model.specs.Verdict.{judged}
 use Rattle.host_model.specs.declared.verdict.Verdict.{Verdict}
 use Rattle.host_model.specs.declared.verdict.Verdict.TheVariants.{Accepted, Refused}
 use Rattle.host_record.specs.declared.request.Request.{Request}
-use Rattle.host_record.specs.declared.status.Status.TheVariants.{InvalidArgs, NotFound, NotSupported, OutOfRange, TooSmall}
+use Rattle.host_record.specs.declared.status.Status.TheVariants.{InvalidArgs, NotFound}
+use Rattle.host_record.specs.declared.status.Status.TheVariants.{NotSupported, OutOfRange, TooSmall}
 use Rattle.model_rows.specs.Parts.{part}
 
 -- a request with this command and group, for so many blocks, from a page of buffer 1 and from a

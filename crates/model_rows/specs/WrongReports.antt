@@ -1,10 +1,12 @@
 -- Runs that differ in one thing from the realistic one, each refused by the part that it breaks.
-use Rattle.std.specs.Prelude.{◌≡◌, ℕ, true, false, [], ◌∷◌, ◌++◌, take, drop, set, nat_lt, replicate}
+use Rattle.std.specs.Prelude.{◌≡◌, ℕ, true, false, [], ◌∷◌, ◌++◌, take, drop, set, nat_lt}
+use Rattle.std.specs.Prelude.{replicate}
 use Rattle.host_block.specs.declared.op.Op.TheVariants as op
 use Rattle.host_model.specs.Lists.{implies}
 use Rattle.host_model.specs.declared.event.AttachError.TheVariants as attach
 use Rattle.host_model.specs.declared.event.Event.TheVariants.{NotAttached, Filled}
-use Rattle.host_report.specs.Lawful.{IsLawfulRun, IsOfImage, IsOnTable, closing_flush, pages_asked, ran_short}
+use Rattle.host_report.specs.Lawful.{IsLawfulRun, IsOfImage, IsOnTable, closing_flush, pages_asked}
+use Rattle.host_report.specs.Lawful.{ran_short}
 use Rattle.host_report.specs.Played.{IsPlayedBy}
 use Rattle.host_report.specs.declared.closing.Closing.TheVariants.{Cut}
 use Rattle.host_report.specs.declared.report.Report.{Report}

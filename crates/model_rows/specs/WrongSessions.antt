@@ -6,7 +6,8 @@ use Rattle.host_model.specs.declared.event.Event.TheVariants.{Attached, Filled}
 use Rattle.host_model.specs.declared.memory.MemEvent.TheVariants as mem
 use Rattle.host_record.specs.declared.status.Status.TheVariants as status
 use Rattle.model_rows.specs.Parts.{accepted, cells, got, send, step}
-use Rattle.model_rows.specs.Sessions.{aborted, closed_buffer, failed_group, faults, short, twins, untaken_close, filled, realistic}
+use Rattle.model_rows.specs.Sessions.{aborted, closed_buffer, failed_group, faults, short, twins}
+use Rattle.model_rows.specs.Sessions.{untaken_close, filled, realistic}
 
 -- xs with x before element n
 abbrev pub put_in : {A : Type 0} → ℕ → A → List A → List A

@@ -5,7 +5,7 @@ use Rattle.std.specs.Prelude.{◌≡◌, ℕ, List, [], ◌∷◌, ◌++◌, dro
 use Rattle.host_gpt.specs.Crc.{crc_of}
 use Rattle.host_gpt.specs.Entries.{used}
 use Rattle.host_gpt.specs.Header.{Agrees, IsEntrySize, IsLarge, header_crc}
-use Rattle.host_gpt.specs.Table.{HasLarge, IsChosen, IsInside, IsValid}
+use Rattle.host_gpt.specs.Table.{HasLarge, IsChosen, IsArrayInside, IsValid}
 use Rattle.host_gpt.specs.declared.header.Header.{Header}
 use Rattle.host_gpt.specs.declared.which.Which.TheVariants.{Backup, Primary}
 use Rattle.model_rows.specs.Table.{array_block, header_block, image}
@@ -49,9 +49,9 @@ pub record WrongArraysAreRefused : Type 0 where
   -- a byte of the array differs
   pub crc : ¬ IsValid (set image 2 (set array_block 0 3)) 1
   -- four blocks of 512 bytes: an array begins past them, or ends past them
-  pub begins_past : ¬ IsInside 4 512 (array 4 1 128)
-  pub ends_past : ¬ IsInside 4 512 (array 3 5 128)
-  pub ends_with_it : IsInside 4 512 (array 3 4 128)
+  pub begins_past : ¬ IsArrayInside 4 512 (array 4 1 128)
+  pub ends_past : ¬ IsArrayInside 4 512 (array 3 5 128)
+  pub ends_with_it : IsArrayInside 4 512 (array 3 4 128)
   -- more entries, or more bytes, than are read
   pub many : IsLarge (array 2 1025 128)
   pub long : IsLarge (array 2 1024 2048)

@@ -1,21 +1,15 @@
 -- A script can be played where it was begun.
 use Rattle.std.proofs.Common.{◌≡◌, ℕ, ◌+◌, ◌≤◌, Bool, List, length, map, sym, ◌∙◌, ap, subst, None}
-use Rattle.std.specs.Prelude.{All}
+use Rattle.std.specs.Prelude.{All, Ok}
 use Rattle.std.proofs.lemmas.List.{length-map}
 use Rattle.std.proofs.lemmas.List.Elements.{All-map}
 use Rattle.host_block.specs.declared.range.Range.{Range}
-use Rattle.host_start.specs.Images.{IsPlaced}
-use Rattle.host_start.specs.Reading.{IsFit}
-use Rattle.host_start.specs.declared.places.Place.{Place}
-use Rattle.host_start.specs.declared.start.Start.{Start}
+use Rattle.host_start.specs.{IsPlaced, IsFit, Place, Start}
 use Rattle.script_model.proofs.SaidScript.{script_fits}
-use Rattle.script_model.specs.Limit.{limit_of}
-use Rattle.script_model.specs.Plans.{SessionPlan, plans_of}
-use Rattle.script_model.specs.Script.{script_of}
-use Rattle.std.specs.Prelude.{Ok}
+use Rattle.script_model.specs.{limit_of, PlannedSession, plans_of, script_of}
 
 -- a script that a text means, within its limits
-pub fit : (size : ℕ) (text : List ℕ) (plans : List SessionPlan) → script_of text ≡ Ok plans → limit_of size plans ≡ None → IsFit size plans
+pub fit : (size : ℕ) (text : List ℕ) (plans : List PlannedSession) → script_of text ≡ Ok plans → limit_of size plans ≡ None → IsFit size plans
 fit size text plans meant limits = record { said = script_fits text plans meant; limits = limits }
 
 -- a place for each session
@@ -23,7 +17,7 @@ pub as_many : (tells : Bool) (image : List (List ℕ)) (start : Start) → IsPla
 as_many tells image start placed =
     sym (length-map start.places.items (λ (p : Place). p.part))
     ∙ ap length placed.places.named
-    ∙ length-map (plans_of start.script) (λ (p : SessionPlan). p.part)
+    ∙ length-map (plans_of start.script) (λ (p : PlannedSession). p.part)
 
 -- the ranges of places lie in the image
 pub inside : (places : List Place) (ranges : List Range) (blocks ground_blocks : ℕ) → ranges ≡ map (λ (p : Place). p.range) places → ground_blocks ≡ blocks

@@ -1,4 +1,5 @@
-// What stands before a script is played: the script itself, the partitions of its sessions, and the disk.
+// What stands before a script is played: the script itself, the partitions of its sessions, and the
+// disk.
 ghost use Rattle.std.specs.Prelude.{◌≡◌, IfOk, IfSome, length, map};
 ghost use Rattle.host_io.specs.MemDisk.{shape_of, state_of};
 ghost use Rattle.host_play.specs.Stages.{IsGround};
@@ -12,7 +13,8 @@ use host_script::{Script, parse};
 use host_start::{Place, Start, start_on_copy};
 use std::alloc::{AllocError, Global};
 
-/// The script that a text means, where it passes no limit with blocks of this size. Its text may be longer than a program takes.
+/// The script that a text means, where it passes no limit with blocks of this size. Its text may be
+/// longer than a program takes.
 pub fn read_text(alloc: Global, text: &[u8], size: BlockSize) -> Option<Script>
     ensures { IfSome result (λ script. IsFit size (plans_of script)) }
 {
@@ -28,7 +30,8 @@ pub fn read_text(alloc: Global, text: &[u8], size: BlockSize) -> Option<Script>
 /// The script, and where the partitions of its sessions lie on this image.
 pub fn begin(alloc: Global, image: &[u8], text: &[u8], size: BlockSize) -> Option<Start>
     ensures size { IfSome result (λ start. start.size ≡ size) }
-    ensures places { IfSome result (λ start. length start.places.items ≡ length (plans_of start.script)) }
+    ensures places { IfSome result
+        (λ start. length start.places.items ≡ length (plans_of start.script)) }
 {
     let script = read_text(alloc, text, size)?;
     let mut disk = MemDisk::new(alloc, image.to_vec(alloc).ok()?, Vec::new(alloc));
@@ -58,7 +61,8 @@ pub fn ground_of(
     fails: Vec<FailAt>,
     start: &Start,
 ) -> Option<Ground<MemDisk>>
-    ensures ground { IfSome result (λ ground. IsGround (shape_of ground.disk) (state_of ground.disk) ground.blocks ground.size) }
+    ensures ground { IfSome result (λ ground.
+        IsGround (shape_of ground.disk) (state_of ground.disk) ground.blocks ground.size) }
     ensures size { IfSome result (λ ground. ground.size ≡ start.now.size) }
     ensures count { IfSome result (λ ground. ground.blocks ≡ start.now.blocks) }
 {

@@ -22,8 +22,9 @@ pub struct Run {
     pub disk: MemDisk,
 }
 
-/// Plays the script of this text on a disk that holds this image in blocks of 512 bytes, and fails at these calls. `None`
-/// where memory was refused, or there is no such script, or an image that lacks its partitions.
+/// Plays the script of this text on a disk that holds this image in blocks of 512 bytes, and fails
+/// at these calls. `None` where memory was refused, or there is no such script, or an image that
+/// lacks its partitions.
 pub fn run_text<R: Threads + Wait + Sync, G: Gate + Sync>(
     rt: &R,
     alloc: Global,

@@ -1,12 +1,11 @@
 -- What a kill in the middle of a run leaves.
 use Rattle.std.proofs.Common.{ℕ, List, [], ◌∷◌, take}
 use Rattle.crash_law.proofs.Survival.{flushed_writes_survive}
-use Rattle.crash_law.specs.Survival.{KeepsFlushed}
-use Rattle.host_block.specs.Crash.{IsCrashImage}
-use Rattle.host_block.specs.Disk.{DiskCall, DiskState}
-use Rattle.host_device.specs.Crashes.{CrashesLeave}
-use Rattle.host_model.specs.Changes.{changes_of}
-use Rattle.play_law.specs.Kills.{FlushedWritesSurviveKills}
+use Rattle.crash_law.specs.{KeepsFlushed}
+use Rattle.host_block.specs.{IsCrashImage, DiskCall, DiskState}
+use Rattle.host_device.specs.{CrashesLeave}
+use Rattle.host_model.specs.{changes_of}
+use Rattle.play_law.specs.{FlushedWritesSurviveKills}
 
 -- what holds of each image that a crash leaves may be weakened
 leave_more : (P Q : List (List ℕ) → Type 0) → ((left : List (List ℕ)) → P left → Q left) → (calls : List DiskCall) (old new : DiskState) → CrashesLeave P calls old new → CrashesLeave Q calls old new

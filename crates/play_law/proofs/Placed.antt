@@ -4,35 +4,30 @@ use Rattle.std.specs.Prelude.{unwrap_or}
 use Rattle.std.specs.List.{slice_get}
 use Rattle.host_block.specs.declared.range.Range.{Range}
 use Rattle.host_block.proofs.Places.{in_map, within}
-use Rattle.host_gpt.specs.Table.{IsTable}
-use Rattle.host_part.specs.Ranges.{IsRangeOf}
-use Rattle.host_report.specs.declared.report.Report.{Report}
-use Rattle.host_report.specs.declared.session.SessionReport.{SessionReport}
-use Rattle.host_report.specs.Lawful.{IsOnTable}
-use Rattle.host_session.specs.declared.spec.SessionSpec.{SessionSpec}
-use Rattle.host_session.specs.Client.{ClientState}
-use Rattle.host_start.specs.declared.places.Place.{Place}
-use Rattle.host_start.specs.declared.start.Start.{Start}
-use Rattle.host_start.specs.Images.{IsLayoutOn, IsPlaced, parts_of}
-use Rattle.script_model.specs.Plans.{SessionPlan, plans_of}
-use Rattle.host_play.specs.Opened.{spec_for, specs_from}
-use Rattle.host_play.specs.Plays.{IsReportOf}
+use Rattle.host_gpt.specs.{IsTable}
+use Rattle.host_part.specs.{IsRangeOf}
+use Rattle.host_report.specs.{Report, SessionReport, IsOnTable}
+use Rattle.host_session.specs.{SessionSpec, ClientState}
+use Rattle.host_start.specs.{Place, Start, IsLayoutOn, IsPlaced, parts_of}
+use Rattle.script_model.specs.{PlannedSession, plans_of}
+use Rattle.host_play.specs.{spec_for, specs_from, IsReportOf}
 use Rattle.session_law.proofs.Finding.{from_map}
-use Rattle.session_law.proofs.Places.{only_at, some_at}
-use Rattle.hand_law.proofs.Whole.{all_one}
-use Rattle.report_law.proofs.Shares.{all_by}
-use Rattle.play_law.specs.Runs.{IsLaidOut}
+use Rattle.session_law.proofs.Places.{only_at}
+use Rattle.host_log.proofs.Places.{some_at}
+use Rattle.session_law.proofs.Whole.{all_one}
+use Rattle.play_law.proofs.Shares.{all_by}
+use Rattle.play_law.specs.{IsLaidOut}
 
 -- spec k is that of plan k on range k
-pub record IsSpecOf (plans : List SessionPlan) (ranges : List Range) (size depth n k : ℕ) (spec : SessionSpec) : Type 0 where
-  pub plan : SessionPlan
+pub record IsSpecOf (plans : List PlannedSession) (ranges : List Range) (size depth n k : ℕ) (spec : SessionSpec) : Type 0 where
+  pub plan : PlannedSession
   pub range : Range
   pub planned : slice_get plans k ≡ Some plan
   pub ranged : slice_get ranges k ≡ Some range
   pub part_is : spec.part_number ≡ plan.part
   pub range_is : spec.part ≡ range
 
-spec_at : (plans : List SessionPlan) (ranges : List Range) (size depth n k : ℕ) (spec : SessionSpec) → slice_get (specs_from n plans ranges size depth) k ≡ Some spec → IsSpecOf plans ranges size depth n k spec
+spec_at : (plans : List PlannedSession) (ranges : List Range) (size depth n k : ℕ) (spec : SessionSpec) → slice_get (specs_from n plans ranges size depth) k ≡ Some spec → IsSpecOf plans ranges size depth n k spec
 spec_at [] ranges size depth n zero spec at = absurd (cc)
 spec_at [] ranges size depth n (suc k) spec at = absurd (cc)
 spec_at (plan ∷ plans) [] size depth n zero spec at = absurd (cc)
@@ -56,7 +51,7 @@ module _ (tells : Bool) (image : List (List ℕ)) (start : Start) (workers depth
       (ap (λ l. slice_get l k) (sym run.specs_are) ∙ in_map (λ (client : ClientState). client.plan.spec) run.clients k c.0 c.1) in
       let place = from_map (λ (p : Place). p.range) start.places.items k spec.range spec.ranged in
       let named : slice_get (parts_of (plans_of start.script)) k ≡ Some place.0.part = ap (λ l. slice_get l k) (sym placed.places.named) ∙ in_map (λ (p : Place). p.part) start.places.items k place.0 place.1 in
-      let planned : slice_get (parts_of (plans_of start.script)) k ≡ Some spec.plan.part = in_map (λ (p : SessionPlan). p.part) (plans_of start.script) k spec.plan spec.planned in
+      let planned : slice_get (parts_of (plans_of start.script)) k ≡ Some spec.plan.part = in_map (λ (p : PlannedSession). p.part) (plans_of start.script) k spec.plan spec.planned in
       let part : place.0.part ≡ e.part = only_at (parts_of (plans_of start.script)) k place.0.part spec.plan.part named planned ∙ (sym spec.part_is ∙ sym end.plan.0) in
       let range : place.0.range ≡ e.range = place.2 ∙ (sym spec.range_is ∙ sym end.plan.1) in
       let is : IsRangeOf placed.layout place.0.part place.0.range = all_one (λ (p : Place). IsRangeOf placed.layout p.part p.range) start.places.items placed.places.ranges k place.0 place.1 in

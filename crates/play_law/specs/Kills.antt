@@ -8,8 +8,12 @@ use Rattle.host_model.specs.Changes.{changes_of}
 use Rattle.host_report.specs.Lawful.{IsLawful}
 use Rattle.host_report.specs.declared.report.Report.{Report}
 
--- A step of a device promises of its disk calls that a crash before, between, inside or after them leaves an image that the steps
--- before it allow. So what those steps flushed has survived in it.
+-- A step of a device promises of its disk calls that a crash before, between, inside or after them
+-- leaves an image that the steps before it allow. So what those steps flushed has survived in it.
 abbrev pub FlushedWritesSurviveKills : Type 0
-FlushedWritesSurviveKills = (image : List (List ℕ)) (report : Report) (count : ℕ) (calls : List DiskCall) (old new : DiskState) → IsLawful image report → let made = take count report.steps.items in
-    CrashesLeave (IsCrashImage image (changes_of made)) calls old new → CrashesLeave (KeepsFlushed image report made) calls old new
+FlushedWritesSurviveKills =
+    (image : List (List ℕ)) (report : Report) (count : ℕ) (calls : List DiskCall)
+    (old new : DiskState) → IsLawful image report
+    → let made = take count report.steps.items in CrashesLeave
+    (IsCrashImage image (changes_of made)) calls old new → CrashesLeave
+    (KeepsFlushed image report made) calls old new

@@ -2,8 +2,10 @@
 ghost use Rattle.std.specs.Prelude.{◌≡◌, [], not, filter, map, IfOk};
 ghost use Rattle.std.specs.Str.{bytes_eq};
 ghost use Rattle.host_model.specs.Lists.{is_nil};
-ghost use Rattle.host_report.specs.Played.{are_calls_for, attach, calls_asked, calls_in, fill, is_call_for, is_closed_error, is_end_of, is_received, is_wait, send, show};
-ghost use Rattle.played_check.specs.Plans.{asked_by};
+ghost use Rattle.host_report.specs.Played.{are_calls_for, attach, calls_asked, calls_in, fill};
+ghost use Rattle.host_report.specs.Played.{is_call_for, is_closed_error, is_end_of, is_received};
+ghost use Rattle.host_report.specs.Played.{is_wait, send, show};
+ghost use Rattle.played_check.specs.Plans.{played_ask};
 
 use crate::plan::Ask;
 use host_model::{AttachError, Event};
@@ -21,7 +23,7 @@ fn is_answer(event: &Event) -> bool
 
 /// Whether it is a wait.
 pub fn waits(ask: &Ask) -> bool
-    ensures { result ≡ is_wait (asked_by ask.now) }
+    ensures { result ≡ is_wait (played_ask ask.now) }
 {
     match ask {
         Ask::WaitAll => true,
@@ -32,7 +34,7 @@ pub fn waits(ask: &Ask) -> bool
 
 // What is asked but for the waits.
 fn calls_of(alloc: Global, asks: &[Ask]) -> Result<Vec<Ask>, AllocError>
-    ensures { IfOk result (λ v. v.items ≡ filter (λ a. not (is_wait (asked_by a))) asks.now) }
+    ensures { IfOk result (λ v. v.items ≡ filter (λ a. not (is_wait (played_ask a))) asks.now) }
 {
     asks.iter()
         .copied()
@@ -105,7 +107,7 @@ fn sends(event: &Event, bytes: &[u8; 32]) -> bool
 
 // Whether the event is what was asked for.
 fn is_call(ask: &Ask, event: &Event) -> bool
-    ensures { result ≡ is_call_for (asked_by ask.now) event.now }
+    ensures { result ≡ is_call_for (played_ask ask.now) event.now }
 {
     match ask {
         Ask::Attach { pages } => attaches(event, *pages),
@@ -145,15 +147,16 @@ fn are_answers(log: &[Event]) -> bool
 // A log without an end isn't that of any calls.
 #[tactic(auto, using(crate::proofs::PlayedLemmas::none_played))]
 fn end_is_missing(finish: Finish, calls: &[Ask]) -> bool
-    ensures { result ≡ are_calls_for finish (map asked_by calls.now) [] }
+    ensures { result ≡ are_calls_for finish (map played_ask calls.now) [] }
 {
     false
 }
 
-// Whether the log without its answers has one event for each of these calls, in order, and then the end.
+// Whether the log without its answers has one event for each of these calls, in order, and then the
+// end.
 #[tactic(auto, using(crate::proofs::PlayedLemmas::answer_more, crate::proofs::PlayedLemmas::end_more, crate::proofs::PlayedLemmas::call_more))]
 fn are_calls(finish: Finish, calls: &[Ask], log: &[Event]) -> bool
-    ensures { result ≡ are_calls_for finish (map asked_by calls.now) (calls_in log.now) }
+    ensures { result ≡ are_calls_for finish (map played_ask calls.now) (calls_in log.now) }
 {
     match log {
         [] => end_is_missing(finish, calls),
@@ -169,7 +172,8 @@ fn are_calls(finish: Finish, calls: &[Ask], log: &[Event]) -> bool
     }
 }
 
-/// Whether the log without its answers has one event for each call asked for, in order, and then the end.
+/// Whether the log without its answers has one event for each call asked for, in order, and then
+/// the end.
 #[tactic(auto, using(crate::proofs::PlayedLemmas::asked_calls))]
 pub fn are_calls_asked(
     alloc: Global,
@@ -177,7 +181,8 @@ pub fn are_calls_asked(
     asks: &[Ask],
     log: &[Event],
 ) -> Result<bool, AllocError>
-    ensures { IfOk result (λ b. b ≡ are_calls_for finish (calls_asked (map asked_by asks.now)) (calls_in log.now)) }
+    ensures { IfOk result (λ b.
+        b ≡ are_calls_for finish (calls_asked (map played_ask asks.now)) (calls_in log.now)) }
 {
     let calls = calls_of(alloc, asks)?;
     Ok(are_calls(finish, &calls, log))

@@ -1,5 +1,5 @@
-//! The plain judge of whether a run played a script. It is slow, takes memory as it likes, and shares nothing with the
-//! server.
+//! The plain judge of whether a run played a script. It is slow, takes memory as it likes, and
+//! shares nothing with the server.
 #![tactic(auto)]
 
 mod calls;

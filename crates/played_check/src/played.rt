@@ -1,11 +1,13 @@
 //! Whether a run played a script.
-ghost use Rattle.std.specs.Prelude.{◌≡◌, ◌↔◌, ◌+◌, ◌<◌, ◌≤◌, ◌^◌, ◌==◌, [], IsTrue, IfOk, length, map, nat_le, take};
+ghost use Rattle.std.specs.Prelude.{◌≡◌, ◌↔◌, ◌+◌, ◌<◌, ◌≤◌, ◌^◌, ◌==◌, [], IsTrue, IfOk, length};
+ghost use Rattle.std.specs.Prelude.{map, nat_le, take};
 ghost use Rattle.std.specs.List.{AllZip};
 ghost use Rattle.host_model.specs.Groups.{owed};
 ghost use Rattle.host_model.specs.Lists.{all_with_before};
 ghost use Rattle.host_model.specs.Log.{received, requests};
-ghost use Rattle.host_report.specs.Played.{IsPlayed, IsPlayedBy, before_call, is_waited_for};
-ghost use Rattle.played_check.specs.Plans.{are_waited_from, asked_by, calls_by, is_waited_at, plan_of};
+ghost use Rattle.host_report.specs.Played.{IsPlayedReport, IsPlayedBy, before_call, is_waited_for};
+ghost use Rattle.played_check.specs.Plans.{are_waited_from, played_ask, calls_by, is_waited_at};
+ghost use Rattle.played_check.specs.Plans.{played_plan};
 
 use crate::calls::{are_calls_asked, waits};
 use crate::plan::{Ask, Plan};
@@ -28,7 +30,7 @@ fn past_len(n: usize, log: &[Event]) -> usize
 }
 
 fn calls_of_one(ask: &Ask) -> usize
-    ensures { result ≡ calls_by (asked_by ask.now) }
+    ensures { result ≡ calls_by (played_ask ask.now) }
 {
     if waits(ask) { 0 } else { 1 }
 }
@@ -48,7 +50,8 @@ fn owed_in(alloc: Global, log: &[Event]) -> Result<usize, AllocError>
 }
 
 fn has_all(alloc: Global, past: &[Event]) -> Result<bool, AllocError>
-    ensures { IfOk result (λ b. b ≡ (length (received past.now) == length (owed (requests past.now)))) }
+    ensures { IfOk result
+        (λ b. b ≡ (length (received past.now) == length (owed (requests past.now)))) }
 {
     let received = received_count(alloc, past)?;
     let owed = owed_in(alloc, past)?;
@@ -70,7 +73,7 @@ fn before(n: usize, log: &[Event]) -> &[Event]
 
 // Whether as much was received before the client's call of this number as this asks for.
 fn is_waited(alloc: Global, log: &[Event], n: usize, ask: &Ask) -> Result<bool, AllocError>
-    ensures { IfOk result (λ b. b ≡ is_waited_at n log.now (asked_by ask.now)) }
+    ensures { IfOk result (λ b. b ≡ is_waited_at n log.now (played_ask ask.now)) }
 {
     match ask {
         Ask::WaitAll => has_all(alloc, before(n, log)),
@@ -82,7 +85,7 @@ fn is_waited(alloc: Global, log: &[Event], n: usize, ask: &Ask) -> Result<bool, 
 // Whether each wait was, where n calls stand before these.
 fn are_waited(alloc: Global, log: &[Event], n: usize, asks: &[Ask]) -> Result<bool, AllocError>
     requires { n + length asks.now < 2 ^ 64 }
-    ensures { IfOk result (λ b. b ≡ are_waited_from n log.now (map asked_by asks.now)) }
+    ensures { IfOk result (λ b. b ≡ are_waited_from n log.now (map played_ask asks.now)) }
 {
     match asks {
         [] => Ok(true),
@@ -96,7 +99,8 @@ fn are_waited(alloc: Global, log: &[Event], n: usize, asks: &[Ask]) -> Result<bo
 
 #[tactic(auto, using(crate::proofs::PlayedLemmas::all_waited_is))]
 fn all_waited(alloc: Global, log: &[Event], asks: &[Ask]) -> Result<bool, AllocError>
-    ensures { IfOk result (λ b. b ≡ all_with_before (is_waited_for log.now) (map asked_by asks.now)) }
+    ensures { IfOk result
+        (λ b. b ≡ all_with_before (is_waited_for log.now) (map played_ask asks.now)) }
 {
     are_waited(alloc, log, 0, asks)
 }
@@ -110,7 +114,7 @@ fn is_finish(a: Finish, b: Finish) -> bool
 // Whether the session played the plan.
 #[tactic(auto, using(crate::proofs::PlayedLemmas::played_is))]
 fn is_played_by(alloc: Global, plan: &Plan, s: &SessionReport) -> Result<bool, AllocError>
-    ensures { IfOk result (λ b. IsTrue b ↔ IsPlayedBy (plan_of plan.now) s.now) }
+    ensures { IfOk result (λ b. IsTrue b ↔ IsPlayedBy (played_plan plan.now) s.now) }
 {
     let part = s.part == plan.part;
     let finish = is_finish(s.finish, plan.finish);
@@ -128,7 +132,8 @@ fn are_none(sessions: &[SessionReport]) -> bool
 }
 
 fn are_played(alloc: Global, plans: &[Plan], sessions: &[SessionReport]) -> Result<bool, AllocError>
-    ensures { IfOk result (λ b. IsTrue b ↔ AllZip IsPlayedBy (map plan_of plans.now) sessions.now) }
+    ensures { IfOk result
+        (λ b. IsTrue b ↔ AllZip IsPlayedBy (map played_plan plans.now) sessions.now) }
 {
     match plans {
         [] => Ok(are_none(sessions)),
@@ -145,7 +150,7 @@ fn are_played(alloc: Global, plans: &[Plan], sessions: &[SessionReport]) -> Resu
 
 /// Whether the run played the script that asks this of its clients.
 pub fn is_played(alloc: Global, plans: &[Plan], report: &Report) -> Result<bool, AllocError>
-    ensures { IfOk result (λ b. IsTrue b ↔ IsPlayed (map plan_of plans.now) report.now) }
+    ensures { IfOk result (λ b. IsTrue b ↔ IsPlayedReport (map played_plan plans.now) report.now) }
 {
     let played = are_played(alloc, plans, report.sessions.as_slice())?;
     Ok(played)

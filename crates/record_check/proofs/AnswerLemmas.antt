@@ -6,15 +6,9 @@ use Rattle.host_record.specs.declared.request.Request.{Request}
 use Rattle.host_record.specs.declared.response.Response.{Response}
 use Rattle.host_record.specs.declared.status.Status.{Status}
 use Rattle.byteorder.specs.Endian.{little_bytes}
-use Rattle.host_record.specs.Response.{response_bytes}
-use Rattle.host_record.specs.Status.{status_number}
-use Rattle.host_model.specs.declared.row.TakenRow.{TakenRow}
-use Rattle.host_model.specs.Answers.{answer_bytes, first_failure}
-use Rattle.host_model.specs.Groups.{answered_by, is_member, is_owing}
-use Rattle.host_model.specs.Lists.{below}
-use Rattle.host_model.specs.Log.{request_at}
-use Rattle.host_model.specs.Taking.{row_at}
-use Rattle.record_check.specs.Asks.{due_below}
+use Rattle.host_record.specs.{response_bytes, status_number}
+use Rattle.host_model.specs.{TakenRow, answer_bytes, first_failure, answered_by, is_member, is_owing, below, request_at, row_at}
+use Rattle.record_check.specs.{due_below}
 use Rattle.record_check.proofs.GroupLemmas.{below_more}
 
 digit_0 : (n : ℕ) → n % 4294967296 % 256 ≡ n % 256

@@ -4,7 +4,7 @@ use Rattle.std.proofs.Math.Bool.{and-true}
 use Rattle.std.proofs.Math.Seq.{take-length}
 use Rattle.std.proofs.lemmas.List.Folds.{list_all-append}
 use Rattle.std.specs.List.{list_all}
-use Rattle.host_model.specs.Lists.{below}
+use Rattle.host_model.specs.{below}
 use Rattle.record_check.proofs.GroupLemmas.{below_more}
 
 pub all_below_more : (test : ℕ → Bool) (n : ℕ) → list_all test (below (n + 1)) ≡ (list_all test (below n) && test n)

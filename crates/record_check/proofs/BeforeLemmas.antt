@@ -3,7 +3,7 @@ use Rattle.std.proofs.Common.{◌≡◌, ℕ, ◌+◌, ◌<◌, Bool, ◌&&◌, 
 use Rattle.std.proofs.lemmas.List.{take_more}
 use Rattle.std.proofs.lemmas.List.Elements.{filter_map-append}
 use Rattle.std.specs.List.{cons_option, last_or}
-use Rattle.host_model.specs.Lists.{all_with_before, last, map_after, map_with_before}
+use Rattle.host_model.specs.{all_with_before, last, map_after, map_with_before}
 use Rattle.host_model.proofs.Growth.{all_with_before-push}
 
 pub all_before_more : {A : Type 0} (test : List A → A → Bool) (xs : List A) (i : ℕ) (d : A) → i < length xs

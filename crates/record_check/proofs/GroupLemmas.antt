@@ -7,8 +7,7 @@ use Rattle.std.proofs.lemmas.List.Folds.{list_all-append}
 use Rattle.std.specs.List.{list_all, range_with_len}
 use Rattle.std.proofs.lemmas.List.{map-append}
 use Rattle.host_record.specs.declared.request.Request.{Request}
-use Rattle.host_model.specs.Groups.{answers_for, owing_record}
-use Rattle.host_model.specs.Lists.{below}
+use Rattle.host_model.specs.{answers_for, owing_record, below}
 use Rattle.host_model.proofs.ListTests.{and-from}
 
 length-range : (a n : ℕ) → length (range_with_len a n) ≡ n

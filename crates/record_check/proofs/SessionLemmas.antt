@@ -1,15 +1,10 @@
 -- A session is lawful where each of its tests holds.
 use Rattle.std.proofs.Common.{◌≡◌, ◌↔◌, ℕ, ◌+◌, ◌<◌, ◌≤◌, Bool, not, ◌&&◌, IsTrue, nat_lt, [], ◌∷◌, ◌++◌, length, map, filter, filter_map, take, sym, ◌∙◌, arith}
 use Rattle.std.specs.List.{list_all}
-use Rattle.host_model.specs.Answers.{AreDueAnswers, is_answered_at_most, is_answered_exactly}
-use Rattle.host_model.specs.Carrying.{AreCarriedOut}
-use Rattle.host_model.specs.Lists.{all_with_before, below}
-use Rattle.host_model.specs.Log.{requests, sent, sent_index}
+use Rattle.host_model.specs.{AreDueAnswers, is_answered_at_most, is_answered_exactly, AreCarriedOut, all_with_before, below, requests, sent, sent_index, IsTakenInOrder, end_event, is_drain, is_end, runs_out_rightly, verdicts}
 use Rattle.host_model.specs.Session.{Session}
-use Rattle.host_model.specs.Taking.{IsTakenInOrder, end_event, is_drain, is_end, runs_out_rightly}
-use Rattle.host_model.specs.Verdict.{verdicts}
 use Rattle.host_model.proofs.ListTests.{and-from, both, tested_below}
-use Rattle.record_check.specs.Carried.{IsCarriedBy}
+use Rattle.record_check.specs.{IsCarriedBy}
 use Rattle.record_check.proofs.GroupLemmas.{all_below-from}
 
 pub taken_is : (s : Session) (a b c d e f : Bool)

@@ -2,15 +2,10 @@
 use Rattle.std.proofs.Common.{◌≡◌, ◌↔◌, ℕ, suc, ◌+◌, Bool, true, false, not, ◌==◌, ◌&&◌, cond, IsTrue, List, [], ◌∷◌, ◌++◌, length, filter, filter_map, refl, sym, ap, ◌∙◌, arith}
 use Rattle.std.proofs.lemmas.Bool.{eq-eqb, eqb-true}
 use Rattle.std.specs.List.{range_with_len}
-use Rattle.host_record.specs.declared.finish.Finish.{Finish}
-use Rattle.host_record.specs.declared.finish.Finish.TheVariants.{Drain, Abort}
-use Rattle.host_model.specs.declared.event.Event.{Event}
-use Rattle.host_model.specs.declared.event.Event.TheVariants.{Attached, NotAttached, Filled, Sent, Received, Shown, Drained, Aborted}
-use Rattle.host_model.specs.Lists.{below, is_nil}
-use Rattle.host_model.specs.Log.{sent, sent_index}
-use Rattle.host_model.specs.Taking.{end_event, is_end}
+use Rattle.host_record.specs.{Finish, Drain, Abort}
+use Rattle.host_model.specs.{Event, Attached, NotAttached, Filled, Sent, Received, Shown, Drained, Aborted, below, is_nil, sent, sent_index, end_event, is_end}
 use Rattle.host_model.proofs.ListTests.{and-from, both}
-use Rattle.record_check.specs.Counting.{counts_from, ends_as, is_end_for}
+use Rattle.record_check.specs.{counts_from, ends_as, is_end_for}
 
 pub counted-from : (n : ℕ) (xs : List ℕ) → counts_from n xs ≡ true → xs ≡ range_with_len n (length xs)
 counted-from n [] e = refl

@@ -9,9 +9,12 @@ use Rattle.host_model.specs.Log.{request_at}
 use Rattle.host_model.specs.Taking.{row_at}
 
 -- a request with this row is carried out by these steps
-abbrev pub IsCarried : Range → Request → TakenRow → List Step → Type 0
-IsCarried range r row steps = let asks = asked row.verdict range r in IsTrue (carries_out asks steps) × (row.outcome ≡ outcome_of row.verdict asks steps)
+abbrev pub IsRecordCarried : Range → Request → TakenRow → List Step → Type 0
+IsRecordCarried range r row steps =
+    let asks = asked row.verdict range r in
+    IsTrue (carries_out asks steps) × (row.outcome ≡ outcome_of row.verdict asks steps)
 
 -- record i is
 abbrev pub IsCarriedBy : Range → List Request → List TakenRow → List Step → ℕ → Type 0
-IsCarriedBy range rs rows steps i = IsCarried range (request_at rs i) (row_at rows i) (steps_of i steps)
+IsCarriedBy range rs rows steps i =
+    IsRecordCarried range (request_at rs i) (row_at rows i) (steps_of i steps)

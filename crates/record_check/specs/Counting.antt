@@ -20,4 +20,5 @@ is_end_for _ _ = false
 -- whether the log has one end, its last event
 abbrev pub ends_as : Finish → List Event → Bool
 ends_as finish [] = false
-ends_as finish (e ∷ log) = if is_end e then is_nil log && is_end_for finish e else ends_as finish log
+ends_as finish (e ∷ log) =
+    if is_end e then is_nil log && is_end_for finish e else ends_as finish log

@@ -37,7 +37,10 @@ pub fn always_at_most_due(
     log: &[Event],
     rows: &[TakenRow],
 ) -> Result<bool, AllocError>
-    ensures { IfOk result (λ b. b ≡ list_all (λ n. is_answered_at_most (take n log.now) rows.now) (below (length log.now + 1))) }
+    ensures { IfOk result (λ b.
+        b
+        ≡ list_all (λ n. is_answered_at_most (take n log.now) rows.now)
+        (below (length log.now + 1))) }
 {
     let mut all = true;
     for n in 0..log.len() {

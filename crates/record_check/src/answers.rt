@@ -1,5 +1,6 @@
 //! The answers that a client is due.
-ghost use Rattle.std.specs.Prelude.{◌≡◌, ◌<◌, ◌++◌, [], ◌∷◌, ◌&&◌, length, map, filter, nat_lt, if◌then◌else◌, IfOk, OnOk};
+ghost use Rattle.std.specs.Prelude.{◌≡◌, ◌<◌, ◌++◌, [], ◌∷◌, ◌&&◌, length, map, filter, nat_lt};
+ghost use Rattle.std.specs.Prelude.{if◌then◌else◌, IfOk, OnOk};
 ghost use Rattle.host_record.specs.Response.{response_bytes};
 ghost use Rattle.host_record.specs.Status.{status_number};
 ghost use Rattle.host_model.specs.Answers.{answer_bytes, is_failure, first_failure};
@@ -60,7 +61,8 @@ fn first_failed(outcomes: &[Status]) -> Status
 
 // The status of the first of these records that failed.
 fn status_of(alloc: Global, rows: &[TakenRow], records: &[usize]) -> Result<Status, AllocError>
-    ensures { IfOk result (λ status. status ≡ first_failure (map (λ k. (row_at rows.now k).outcome) records.now)) }
+    ensures { IfOk result
+        (λ status. status ≡ first_failure (map (λ k. (row_at rows.now k).outcome) records.now)) }
 {
     let outcomes = outcomes(alloc, rows, records)?;
     Ok(first_failed(&outcomes))
@@ -76,7 +78,13 @@ fn group_of(r: &Request) -> u16
 // A response to these records. It has room for the low 32 bits of their number.
 #[tactic(auto, using(crate::proofs::AnswerLemmas::low_count))]
 fn response(status: Status, reqid: u32, group: u16, records: &[usize]) -> Response
-    ensures { response_bytes result ≡ response_bytes (record { status = status_number status; reqid = reqid; group = group; count = length records.now }) }
+    ensures { response_bytes result
+        ≡ response_bytes (record {
+          status = status_number status;
+          reqid = reqid;
+          group = group;
+          count = length records.now;
+        }) }
 {
     Response {
         status: status.number(),
@@ -125,7 +133,10 @@ fn push_if_due(
     i: usize,
 ) -> Result<(), AllocError>
     requires { i < length rs.now }
-    ensures { OnOk result (list.new.items ≡ list.old.items ++ (if is_owing (request_at rs.now i) && nat_lt i (length rows.now) then answer_bytes rs.now rows.now i ∷ [] else [])) }
+    ensures { OnOk result (list.new.items
+        ≡ list.old.items
+        ++ (if is_owing (request_at rs.now i) && nat_lt i (length rows.now)
+        then answer_bytes rs.now rows.now i ∷ [] else [])) }
 {
     if owes_answer(&request(rs, i)) && i < rows.len() {
         list.push(answer_to(alloc, rs, rows, i)?)?;
@@ -140,7 +151,10 @@ pub fn answers_due(
     rs: &[Request],
     rows: &[TakenRow],
 ) -> Result<Vec<[u8; 32]>, AllocError>
-    ensures { IfOk result (λ v. v.items ≡ map (answer_bytes rs.now rows.now) (filter (λ i. nat_lt i (length rows.now)) (owed rs.now))) }
+    ensures { IfOk result (λ v.
+        v.items
+        ≡ map (answer_bytes rs.now rows.now)
+        (filter (λ i. nat_lt i (length rows.now)) (owed rs.now))) }
 {
     let mut list = Vec::new(alloc);
     for i in 0..rs.len() {

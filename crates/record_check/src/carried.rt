@@ -20,7 +20,9 @@ pub fn all_carried_out(
     rows: &[TakenRow],
     steps: &[Step],
 ) -> Result<bool, Oom>
-    ensures { IfOk result (λ b. IsTrue b ↔ ((i : ℕ) → i < length rows.now → IsCarriedBy part.now rs.now rows.now steps.now i)) }
+    ensures { IfOk result (λ b.
+        IsTrue b
+        ↔ ((i : ℕ) → i < length rows.now → IsCarriedBy part.now rs.now rows.now steps.now i)) }
 {
     let mut all = true;
     for i in 0..rows.len() {

@@ -1,6 +1,8 @@
 //! Which records are answered together.
 ghost use Rattle.std.specs.Prelude.{◌≡◌, ◌<◌, length, take, IfOk};
-ghost use Rattle.host_model.specs.Groups.{is_member, is_closing, is_owing, closings, instance_of, same_instance, answers_for, answered_by, owed, owing_record};
+ghost use Rattle.host_model.specs.Groups.{is_member, is_closing, is_owing, closings, instance_of};
+ghost use Rattle.host_model.specs.Groups.{same_instance, answers_for, answered_by, owed};
+ghost use Rattle.host_model.specs.Groups.{owing_record};
 
 use crate::log::request;
 use host_record::Request;

@@ -1,5 +1,5 @@
-//! The plain judge of a session's records: whether they were taken in order, carried out and answered. It is slow, takes
-//! memory as it likes, and shares nothing with the server.
+//! The plain judge of a session's records: whether they were taken in order, carried out and
+//! answered. It is slow, takes memory as it likes, and shares nothing with the server.
 #![tactic(auto)]
 
 mod answered;

@@ -1,7 +1,8 @@
 //! What a client's log tells.
 ghost use Rattle.std.specs.Prelude.{◌≡◌, length, IfOk};
 ghost use Rattle.host_record.specs.Request.{request_of};
-ghost use Rattle.host_model.specs.Log.{sent, sent_bytes, received, received_bytes, requests, request_at};
+ghost use Rattle.host_model.specs.Log.{sent, sent_bytes, received, received_bytes, requests};
+ghost use Rattle.host_model.specs.Log.{request_at};
 
 use host_model::Event;
 use host_record::Request;

@@ -1,5 +1,6 @@
 //! Whether the records of a session were taken in order, carried out and answered.
-ghost use Rattle.std.specs.Prelude.{◌≡◌, ◌↔◌, ◌≤◌, ◌++◌, [], ◌∷◌, IsTrue, filter, filter_map, length, map, not, IfOk};
+ghost use Rattle.std.specs.Prelude.{◌≡◌, ◌↔◌, ◌≤◌, ◌++◌, [], ◌∷◌, IsTrue, filter, filter_map};
+ghost use Rattle.std.specs.Prelude.{length, map, not, IfOk};
 ghost use Rattle.host_model.specs.Answers.{AreDueAnswers, is_answered_exactly};
 ghost use Rattle.host_model.specs.Carrying.{AreCarriedOut};
 ghost use Rattle.host_model.specs.Lists.{below};
@@ -21,7 +22,8 @@ use std::alloc::{AllocError, Global};
 // Whether the records sent are numbered from 0.
 #[tactic(auto, using(crate::proofs::TakingLemmas::numbered_is))]
 fn are_numbered(alloc: Global, log: &[Event]) -> Result<bool, AllocError>
-    ensures { IfOk result (λ b. IsTrue b ↔ (filter_map sent_index log.now ≡ below (length (sent log.now)))) }
+    ensures { IfOk result
+        (λ b. IsTrue b ↔ (filter_map sent_index log.now ≡ below (length (sent log.now)))) }
 {
     let indexes = indexes_sent(alloc, log)?;
     Ok(count_from(&indexes, 0))
@@ -34,7 +36,9 @@ fn are_judged(
     log: &[Event],
     rows: &[TakenRow],
 ) -> Result<bool, AllocError>
-    ensures { IfOk result (λ b. IsTrue b ↔ (map (λ row. row.verdict) rows.now ≡ verdicts log.now part.now (length rows.now))) }
+    ensures { IfOk result (λ b.
+        IsTrue b
+        ↔ (map (λ row. row.verdict) rows.now ≡ verdicts log.now part.now (length rows.now))) }
 {
     let rs = requests_sent(alloc, log)?;
     let verdicts = verdicts_of(alloc, log, &rs, part, rows.len())?;
@@ -44,7 +48,8 @@ fn are_judged(
 // Whether the log ends as the session was ended.
 #[tactic(auto, using(crate::proofs::TakingLemmas::ends_is))]
 fn ends_as_finished(log: &[Event], finish: Finish) -> bool
-    ensures { IsTrue result ↔ (log.now ≡ filter (λ e. not (is_end e)) log.now ++ end_event finish ∷ []) }
+    ensures { IsTrue result
+        ↔ (log.now ≡ filter (λ e. not (is_end e)) log.now ++ end_event finish ∷ []) }
 {
     ends_rightly(log, finish)
 }
@@ -76,7 +81,10 @@ pub fn is_taken_in_order(
     steps: &[Step],
     finish: Finish,
 ) -> Result<bool, AllocError>
-    ensures { IfOk result (λ b. IsTrue b ↔ IsTakenInOrder (session_with size part.now log.now rows.now history.now steps.now finish)) }
+    ensures { IfOk result (λ b.
+        IsTrue b
+        ↔ IsTakenInOrder
+        (session_with size part.now log.now rows.now history.now steps.now finish)) }
 {
     let numbered = are_numbered(alloc, log)?;
     let few = are_few(log, rows);
@@ -98,7 +106,10 @@ pub fn is_carried_out(
     steps: &[Step],
     finish: Finish,
 ) -> Result<bool, Oom>
-    ensures { IfOk result (λ b. IsTrue b ↔ AreCarriedOut (session_with size part.now log.now rows.now history.now steps.now finish)) }
+    ensures { IfOk result (λ b.
+        IsTrue b
+        ↔ AreCarriedOut
+        (session_with size part.now log.now rows.now history.now steps.now finish)) }
 {
     let Ok(rs) = requests_sent(alloc, log) else {
         return Err(Oom);
@@ -115,7 +126,8 @@ fn are_exact(
     rows: &[TakenRow],
     finish: Finish,
 ) -> Result<bool, AllocError>
-    ensures { IfOk result (λ b. IsTrue b ↔ (IsTrue (is_drain finish) → IsTrue (is_answered_exactly log.now rows.now))) }
+    ensures { IfOk result (λ b.
+        IsTrue b ↔ (IsTrue (is_drain finish) → IsTrue (is_answered_exactly log.now rows.now))) }
 {
     match finish {
         Finish::Drain => {
@@ -137,7 +149,10 @@ pub fn is_answered(
     steps: &[Step],
     finish: Finish,
 ) -> Result<bool, AllocError>
-    ensures { IfOk result (λ b. IsTrue b ↔ AreDueAnswers (session_with size part.now log.now rows.now history.now steps.now finish)) }
+    ensures { IfOk result (λ b.
+        IsTrue b
+        ↔ AreDueAnswers
+        (session_with size part.now log.now rows.now history.now steps.now finish)) }
 {
     let always = always_at_most_due(alloc, log, rows)?;
     let exact = are_exact(alloc, log, rows, finish)?;

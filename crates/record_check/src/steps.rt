@@ -24,7 +24,8 @@ fn copy_of(step: &Step) -> Result<Step, Oom>
 
 /// Adds a copy of the step, where it is wanted.
 pub fn push_if(list: &mut Vec<Step>, step: &Step, wanted: bool) -> Result<(), Oom>
-    ensures { OnOk result (list.new.items ≡ list.old.items ++ (if wanted then step.now ∷ [] else [])) }
+    ensures { OnOk result
+        (list.new.items ≡ list.old.items ++ (if wanted then step.now ∷ [] else [])) }
 {
     if wanted {
         let step = copy_of(step)?;

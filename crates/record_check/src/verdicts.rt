@@ -1,7 +1,8 @@
 //! The verdicts on the records of a log.
 ghost use Rattle.std.specs.Prelude.{◌≡◌, IfOk, None, if◌then◌else◌};
 ghost use Rattle.host_model.specs.Log.{given_before, pages_given, pages_of};
-ghost use Rattle.host_model.specs.Verdict.{closes, close_in, is_closed, verdict_after, verdicts, verdicts_on};
+ghost use Rattle.host_model.specs.Verdict.{closes, close_in, is_closed, verdict_after, verdicts};
+ghost use Rattle.host_model.specs.Verdict.{verdicts_on};
 
 use crate::log::request;
 use host_block::Range;

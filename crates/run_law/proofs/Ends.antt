@@ -1,27 +1,15 @@
 -- How a run ends, from what it leaves.
 use Rattle.std.proofs.Common.{◌≡◌, ◌⊎◌, inl, inr, ℕ, ◌≤◌, List, ◌++◌, length, Option, Some, None, Ok, Err, refl, sym, ◌∙◌, ap, subst, arith}
 use Rattle.std.proofs.lemmas.List.{length-append}
-use Rattle.host_report.specs.declared.report.Report.{Report}
-use Rattle.host_run.specs.Ending.{IsItsScript, IsNoScript, IsNoStart, IsRefused, IsScriptOf, SaysNoScript, StandsThere}
+use Rattle.host_report.specs.{Report}
+use Rattle.host_run.specs.{IsItsScript, IsNoScript, IsNoStart, IsRefused, IsScriptOf, SaysNoScript, StandsThere, LeavesPlayed, SaysCause, start_status, RunLeaves, site_of, SourceSeen, Making, RunStatus}
 use Rattle.host_run.specs.Headline.{Headline}
-use Rattle.host_run.specs.Played.{LeavesPlayed, SaysCause}
-use Rattle.host_run.specs.Refusals.{start_status}
-use Rattle.host_run.specs.Runs.{RunLeaves}
-use Rattle.host_run.specs.Scene.{Scene, site_of}
-use Rattle.host_run.specs.Seen.{SourceSeen}
-use Rattle.host_run.specs.Words.{Making}
-use Rattle.host_run.specs.declared.status.RunStatus.{RunStatus}
-use Rattle.host_start.specs.Images.{SaysOfImage, parts_of}
-use Rattle.host_start.specs.Refusals.{IsAfterScript, IsOfScript}
+use Rattle.host_run.specs.Scene.{Scene}
+use Rattle.host_start.specs.{SaysOfImage, parts_of, IsAfterScript, IsOfScript, StartError}
 use Rattle.host_start.specs.declared.error.Limit.TheVariants as limit
-use Rattle.host_start.specs.declared.error.StartError.{StartError}
 use Rattle.host_start.specs.declared.error.StartError.TheVariants as error
-use Rattle.script_model.specs.Limit.{limit_of}
-use Rattle.script_model.specs.Plans.{SessionPlan}
-use Rattle.script_model.specs.Script.{script_of}
-use Rattle.script_model.specs.declared.parse_error.ParseError.TheVariants.{Bad}
-use Rattle.run_law.specs.Ends.{EndsWith, IsDue, IsFailure}
-use Rattle.run_law.specs.Images.{IsAskedOn}
+use Rattle.script_model.specs.{limit_of, PlannedSession, script_of, Bad}
+use Rattle.run_law.specs.{EndsWith, IsDue, IsFailure, IsAskedOn}
 
 -- ---- the end
 
@@ -37,7 +25,7 @@ told_by others due status e is told = subst (λ (s : RunStatus). IsDue others du
 
 -- a run without a script ends as the error of the script says
 pub ends_unread : (scene : Scene) (others : RunStatus → Type 0) (due status : RunStatus) (report : Option Report) → RunLeaves scene status report
-    → ((plans : List SessionPlan) → IsItsScript scene plans → ⊥) → ((e : StartError) → IsNoScript scene e → IsDue others due (start_status e)) → EndsWith others due status report
+    → ((plans : List PlannedSession) → IsItsScript scene plans → ⊥) → ((e : StartError) → IsNoScript scene e → IsDue others due (start_status e)) → EndsWith others due status report
 ends_unread scene others due status report left never told =
     ends scene others due status report left (λ r headline disks. never headline.played.plans headline.played.script)
     (λ because. told_by others due status because.error because.is (from because.error because.why))
@@ -53,7 +41,7 @@ pub too_long : (left new_left taken : List ℕ) → left ≡ taken ++ new_left �
 too_long left new_left taken is many few = absurd (let n = ap (λ (l : List ℕ). length l) is ∙ length-append taken new_left in omega (arith, n, many, few))
 
 -- where there is a script, there is none only for want of memory or for a source that failed
-no_script : (size : ℕ) (making : Option Making) (before after : SourceSeen) (plans : List SessionPlan) (e : StartError) → StandsThere size making before plans → IsOfScript e → SaysNoScript size making before after e → (e ≡ error.Source) ⊎ (e ≡ error.Oom)
+no_script : (size : ℕ) (making : Option Making) (before after : SourceSeen) (plans : List PlannedSession) (e : StartError) → StandsThere size making before plans → IsOfScript e → SaysNoScript size making before after e → (e ≡ error.Source) ⊎ (e ≡ error.Oom)
 no_script size making before after plans error.Source stands cause says = inl refl
 no_script size making before after plans error.Oom stands cause says = inr refl
 no_script size None before after plans (error.BadScript line word) stands cause says =
@@ -90,14 +78,14 @@ no_script size making before after plans error.NoTable stands cause says = absur
 no_script size making before after plans (error.NoPart session part) stands cause says = absurd cause
 
 -- a script that was read or made is the one that stands there
-pub same_plans : (size : ℕ) (making : Option Making) (before after : SourceSeen) (plans its : List SessionPlan) → StandsThere size making before plans → IsScriptOf size making before after its → its ≡ plans
+pub same_plans : (size : ℕ) (making : Option Making) (before after : SourceSeen) (plans its : List PlannedSession) → StandsThere size making before plans → IsScriptOf size making before after its → its ≡ plans
 same_plans size None before after plans its stands script =
     let meant : script_of before.left ≡ Ok its = (script stands.0).is.meant in
     let good : script_of before.left ≡ Ok plans = stands.1.meant in cc
 same_plans size (Some making) before after plans its stands script = script.0 ∙ sym stands.0
 
 -- where a script stands there, the refusal says its cause, or tells of a failure
-pub refused_by : (scene : Scene) (plans : List SessionPlan) (due status : RunStatus) → StandsThere scene.playing.size scene.playing.making scene.source plans
+pub refused_by : (scene : Scene) (plans : List PlannedSession) (due status : RunStatus) → StandsThere scene.playing.size scene.playing.making scene.source plans
     → ((e : StartError) → IsAfterScript e → SaysCause (site_of scene) plans e → IsDue IsFailure due (start_status e)) → IsRefused scene status → IsDue IsFailure due status
 refused_by scene plans due status stands told because = told_by IsFailure due status because.error because.is (from because.error because.why)
   where
@@ -109,10 +97,10 @@ refused_by scene plans due status stands told because = told_by IsFailure due st
         ]
     from e (inr unplayed) =
         let same = same_plans scene.playing.size scene.playing.making scene.source scene.new_source plans unplayed.plans stands unplayed.script in
-        told e unplayed.cause (subst (λ (p : List SessionPlan). SaysCause (site_of scene) p e) same unplayed.says)
+        told e unplayed.cause (subst (λ (p : List PlannedSession). SaysCause (site_of scene) p e) same unplayed.says)
 
 -- a cause in the image, where the disk tells that
-pub refused_on : (scene : Scene) (plans : List SessionPlan) (image : List (List ℕ)) (due status : RunStatus) → IsAskedOn scene plans image
+pub refused_on : (scene : Scene) (plans : List PlannedSession) (image : List (List ℕ)) (due status : RunStatus) → IsAskedOn scene plans image
     → ((e : StartError) → IsAfterScript e → SaysOfImage image (parts_of plans) e → IsDue IsFailure due (start_status e)) → IsRefused scene status → IsDue IsFailure due status
 refused_on scene plans image due status asked told =
     refused_by scene plans due status asked.script (λ e cause says. told e cause (subst (λ (i : List (List ℕ)). SaysOfImage i (parts_of plans) e) asked.held (says.told asked.tells)))

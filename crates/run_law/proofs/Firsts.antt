@@ -3,15 +3,13 @@ use Rattle.std.proofs.Common.{◌≡◌, ℕ, suc, ◌+◌, List, [], ◌∷◌,
 use Rattle.std.specs.Prelude.{All}
 use Rattle.std.specs.List.{AllByRecursion, AllZip}
 use Rattle.host_gpt.proofs.LawLemmas.{one_table}
-use Rattle.host_gpt.specs.declared.which.Which.{Which}
-use Rattle.host_part.specs.Ranges.{IsRangeOf}
-use Rattle.host_part.specs.Served.{Layout}
-use Rattle.host_report.specs.Played.{IsPlayedBy}
-use Rattle.host_report.specs.declared.session.SessionReport.{SessionReport}
-use Rattle.host_run.specs.declared.status.RunStatus.TheVariants.{NoPart}
-use Rattle.host_start.specs.Images.{IsFirstUnserved, IsLayoutOn, IsServedPart, LacksPart, parts_of}
-use Rattle.script_model.specs.Plans.{SessionPlan}
-use Rattle.script_played.specs.Played.{asked_of}
+use Rattle.host_gpt.specs.{Which}
+use Rattle.host_part.specs.{IsRangeOf, Layout}
+use Rattle.host_report.specs.{IsPlayedBy, SessionReport}
+use Rattle.host_run.specs.{NoPart}
+use Rattle.host_start.specs.{IsFirstUnserved, IsLayoutOn, IsServedPart, LacksPart, parts_of}
+use Rattle.script_model.specs.{PlannedSession}
+use Rattle.script_played.specs.{asked_of}
 
 -- an image has one layout
 pub same_layout : (image : List (List ℕ)) (which which' : Which) (layout layout' : Layout) → IsLayoutOn image which layout → IsLayoutOn image which' layout' → layout ≡ layout'
@@ -56,7 +54,7 @@ one_lack image parts session session' part part' a b =
     ap (λ (n : ℕ). NoPart n part') one.0 ∙ ap (λ (p : ℕ). NoPart session p) one.1
 
 -- the partition of each session that was played on a layout is served
-pub served_each : (layout : Layout) (plans : List SessionPlan) (sessions : List SessionReport) (before after : List ℕ) (part : ℕ) → AllZip IsPlayedBy (map asked_of plans) sessions
+pub served_each : (layout : Layout) (plans : List PlannedSession) (sessions : List SessionReport) (before after : List ℕ) (part : ℕ) → AllZip IsPlayedBy (map asked_of plans) sessions
     → AllByRecursion (λ (s : SessionReport). IsRangeOf layout s.part s.range) sessions → parts_of plans ≡ before ++ part ∷ after → IsServedPart layout part
 served_each layout [] [] [] after part played ranges is = absurd (cc)
 served_each layout [] [] (x ∷ xs) after part played ranges is = absurd (cc)

@@ -2,26 +2,19 @@
 use Rattle.std.proofs.Common.{◌≡◌, inl, inr, ℕ, ◌<◌, ◌≤◌, List, length, Option, Some, None, refl, subst, arith}
 use Rattle.std.specs.Prelude.{IsTrue, IfSome}
 use Rattle.host_gpt.proofs.LawLemmas.{large_excludes, table_excludes}
-use Rattle.host_gpt.specs.Table.{TableIsAbsent, TableIsTooLarge}
+use Rattle.host_gpt.specs.{TableIsAbsent, TableIsTooLarge}
 use Rattle.host_io.specs.declared.mem_disk.MemDisk.{MemDisk}
-use Rattle.host_part.specs.Served.{Layout}
-use Rattle.host_report.specs.Lawful.{IsLawful}
-use Rattle.host_report.specs.declared.report.Report.{Report}
-use Rattle.host_run.specs.Headline.{Headline, IsLawfulOn}
-use Rattle.host_run.specs.Played.{LeavesPlayed}
-use Rattle.host_run.specs.Refusals.{start_status}
-use Rattle.host_run.specs.Scene.{PlayedDisk, Scene, copy_or, image_at, opening_image, site_of}
-use Rattle.host_run.specs.declared.status.RunStatus.{RunStatus}
-use Rattle.host_run.specs.declared.status.RunStatus.TheVariants.{NoPart, NoTable, TooLarge}
-use Rattle.host_start.specs.Images.{IsLayoutOn, IsServedPart, IsSmallEnough, LacksPart, SaysOfBlocks, SaysOfImage, parts_of}
-use Rattle.host_start.specs.Refusals.{IsAfterScript}
+use Rattle.host_part.specs.{Layout}
+use Rattle.host_report.specs.{IsLawful, Report}
+use Rattle.host_run.specs.Headline.{Headline}
+use Rattle.host_run.specs.{IsLawfulOn, LeavesPlayed, start_status, PlayedDisk, copy_or, image_at, opening_image, site_of, RunStatus, NoPart, NoTable, TooLarge}
+use Rattle.host_run.specs.Scene.{Scene}
+use Rattle.host_start.specs.{IsLayoutOn, IsServedPart, IsSmallEnough, LacksPart, SaysOfBlocks, SaysOfImage, parts_of, IsAfterScript, StartError}
 use Rattle.host_start.specs.declared.error.Limit.TheVariants as limit
-use Rattle.host_start.specs.declared.error.StartError.{StartError}
 use Rattle.host_start.specs.declared.error.StartError.TheVariants as error
-use Rattle.script_model.specs.Plans.{SessionPlan}
-use Rattle.script_played.specs.Played.{PlaysPlans}
-use Rattle.run_law.specs.Ends.{IsDue, IsFailure}
-use Rattle.run_law.specs.Images.{AbsentTablesAreTold, IsAskedOn, LargeDisksAreTold, LargeImagesAreTold, LargeTablesAreTold, UnservedSessionsAreTold}
+use Rattle.script_model.specs.{PlannedSession}
+use Rattle.script_played.specs.{PlaysPlans}
+use Rattle.run_law.specs.{IsDue, IsFailure, AbsentTablesAreTold, IsAskedOn, LargeDisksAreTold, LargeImagesAreTold, LargeTablesAreTold, UnservedSessionsAreTold}
 use Rattle.run_law.proofs.Ends.{ends, refused_by, refused_on, same_plans}
 use Rattle.run_law.proofs.Firsts.{one_lack, same_layout, served_each}
 
@@ -32,7 +25,7 @@ on_image size None disk report tells opened lawful = lawful tells
 on_image size (Some c) disk report tells opened lawful = subst (λ (image : List (List ℕ)). IsLawful image report) opened (lawful refl)
 
 -- a report is lawful for the image that the disk handed in held
-lawful_there : (scene : Scene) (plans : List SessionPlan) (image : List (List ℕ)) (report : Report) → IsAskedOn scene plans image → Headline scene report → LeavesPlayed (site_of scene) scene.playing.cut report → IsLawful image report
+lawful_there : (scene : Scene) (plans : List PlannedSession) (image : List (List ℕ)) (report : Report) → IsAskedOn scene plans image → Headline scene report → LeavesPlayed (site_of scene) scene.playing.cut report → IsLawful image report
 lawful_there scene plans image report asked headline disks =
     subst (λ (i : List (List ℕ)). IsLawful i report) asked.held
     (on_image scene.playing.size scene.copy (record { tells = scene.disk.shape.tells; image = image_at (site_of scene); state = scene.new_disk.state }) report asked.tells (disks.opened asked.tells) headline.lawful)
@@ -46,7 +39,7 @@ has_table : (image : List (List ℕ)) (report : Report) → IsLawful image repor
 has_table image report lawful = let on = lawful.on_table in table_excludes image report.which on.disk_id on.first_usable on.last_usable on.entries on.table
 
 -- and each session that was played has its partition
-lacks_none : (image : List (List ℕ)) (report : Report) (plans : List SessionPlan) (session part : ℕ) → IsLawful image report → PlaysPlans plans report → LacksPart image (parts_of plans) session part → ⊥
+lacks_none : (image : List (List ℕ)) (report : Report) (plans : List PlannedSession) (session part : ℕ) → IsLawful image report → PlaysPlans plans report → LacksPart image (parts_of plans) session part → ⊥
 lacks_none image report plans session part lawful played lacks =
     let on = lawful.on_table in
     let layout : Layout = record { first_usable = on.first_usable; last_usable = on.last_usable; blocks = length image; entries = on.entries } in
@@ -133,7 +126,7 @@ unserved_sessions_are_told scene status report plans image session part left ask
     never : (r : Report) → Headline scene r → LeavesPlayed (site_of scene) scene.playing.cut r → ⊥
     never r headline disks =
         let same = same_plans scene.playing.size scene.playing.making scene.source scene.new_source plans headline.played.plans asked.script headline.played.script in
-        lacks_none image r plans session part (lawful_there scene plans image r asked headline disks) (subst (λ (p : List SessionPlan). PlaysPlans p r) same headline.played.is.played) lacks
+        lacks_none image r plans session part (lawful_there scene plans image r asked headline disks) (subst (λ (p : List PlannedSession). PlaysPlans p r) same headline.played.is.played) lacks
 
 pub large_disks_are_told : LargeDisksAreTold
 large_disks_are_told scene status report plans left stands many =

@@ -1,36 +1,22 @@
 -- A run on a script that can't be played ends with the status that says why.
 use Rattle.std.proofs.Common.{◌≡◌, inl, inr, ◌∙◌, ℕ, ◌<◌, ◌≤◌, List, length, Option, Some, None, Result, Ok, Err, refl, sym, ap, subst, arith}
 use Rattle.std.specs.Prelude.{IsTrue}
-use Rattle.host_run.specs.Ending.{IsNoScript, IsScriptOf, SaysNoScript}
-use Rattle.host_run.specs.Refusals.{start_status}
+use Rattle.host_run.specs.{IsNoScript, IsScriptOf, SaysNoScript, start_status, SourceSeen, Making, plans_made, RunStatus, BadScript, Done, OutOfMemory, TooLarge}
 use Rattle.host_run.specs.Scene.{Scene}
-use Rattle.host_run.specs.Seen.{SourceSeen}
-use Rattle.host_run.specs.Words.{Making, plans_made}
-use Rattle.host_run.specs.declared.status.RunStatus.{RunStatus}
-use Rattle.host_run.specs.declared.status.RunStatus.TheVariants.{BadScript, Done, OutOfMemory, TooLarge}
-use Rattle.host_start.specs.Reading.{IsBadAt, IsPast, IsTextPast, IsWithin, Makes, SaysOfScript}
-use Rattle.host_start.specs.Refusals.{IsOfScript, limit_in}
-use Rattle.host_start.specs.declared.error.Limit.{Limit}
+use Rattle.host_start.specs.{IsBadAt, IsPast, IsTextPast, IsWithinLimits, Makes, SaysOfScript, IsOfScript, limit_in, Limit, StartError}
 use Rattle.host_start.specs.declared.error.Limit.TheVariants as limit
-use Rattle.host_start.specs.declared.error.StartError.{StartError}
 use Rattle.host_start.specs.declared.error.StartError.TheVariants as error
-use Rattle.script_model.specs.Limit.{limit_of}
-use Rattle.script_model.specs.Plans.{SessionPlan}
-use Rattle.script_model.specs.Script.{script_of}
-use Rattle.script_model.specs.declared.cause.ScriptCause.{ScriptCause}
-use Rattle.script_model.specs.declared.parse_error.ParseError.{ParseError}
-use Rattle.script_model.specs.declared.parse_error.ParseError.TheVariants.{Bad, Oom}
-use Rattle.run_law.specs.Ends.{IsDue, IsNoMemory, IsUnread}
-use Rattle.run_law.specs.Scripts.{BadScriptsAreTold, IsReadFrom, LongScriptsAreTold, MadeLimitsAreTold, PassedLimitsAreTold}
+use Rattle.script_model.specs.{limit_of, PlannedSession, script_of, ScriptCause, ParseError, Bad, Oom}
+use Rattle.run_law.specs.{IsDue, IsNoMemory, IsUnread, BadScriptsAreTold, IsReadFrom, LongScriptsAreTold, MadeLimitsAreTold, PassedLimitsAreTold}
 use Rattle.run_law.proofs.Ends.{ends_unread, too_long}
 
 -- ---- a script that is read
 
 -- the text of the script, where one was read
-its_within : (size : ℕ) (making : Option Making) (before after : SourceSeen) (text : List ℕ) (plans : List SessionPlan) → making ≡ None → IsTrue before.tells → before.left ≡ text → IsScriptOf size making before after plans → IsWithin size text plans
-its_within size making before after text plans none tells is script = subst (λ (l : List ℕ). IsWithin size l plans) is ((subst (λ (m : Option Making). IsScriptOf size m before after plans) none script) tells).is
+its_within : (size : ℕ) (making : Option Making) (before after : SourceSeen) (text : List ℕ) (plans : List PlannedSession) → making ≡ None → IsTrue before.tells → before.left ≡ text → IsScriptOf size making before after plans → IsWithinLimits size text plans
+its_within size making before after text plans none tells is script = subst (λ (l : List ℕ). IsWithinLimits size l plans) is ((subst (λ (m : Option Making). IsScriptOf size m before after plans) none script) tells).is
 
-within_of : (scene : Scene) (text : List ℕ) (plans : List SessionPlan) → IsReadFrom scene text → IsScriptOf scene.playing.size scene.playing.making scene.source scene.new_source plans → IsWithin scene.playing.size text plans
+within_of : (scene : Scene) (text : List ℕ) (plans : List PlannedSession) → IsReadFrom scene text → IsScriptOf scene.playing.size scene.playing.making scene.source scene.new_source plans → IsWithinLimits scene.playing.size text plans
 within_of scene text plans from script = its_within scene.playing.size scene.playing.making scene.source scene.new_source text plans from.read from.tells from.left script
 
 -- what the refusal says of the text
@@ -43,11 +29,11 @@ saying_of scene text e from unplayed = its_saying scene.playing.size scene.playi
 -- ---- a bad text
 
 -- a text isn't both a script and bad
-not_both : (text : List ℕ) (plans : List SessionPlan) (line : ℕ) (cause : ScriptCause) → script_of text ≡ Ok plans → script_of text ≡ Err (Bad line cause) → ⊥
+not_both : (text : List ℕ) (plans : List PlannedSession) (line : ℕ) (cause : ScriptCause) → script_of text ≡ Ok plans → script_of text ≡ Err (Bad line cause) → ⊥
 not_both text plans line cause good bad = absurd (cc)
 
 -- the status of the first bad line
-abbrev told_of : Result (List SessionPlan) ParseError → RunStatus
+abbrev told_of : Result (List PlannedSession) ParseError → RunStatus
 told_of (Ok plans) = Done
 told_of (Err (Bad line cause)) = BadScript line cause
 told_of (Err Oom) = OutOfMemory
@@ -100,7 +86,7 @@ long_scripts_are_told scene status report text left from long =
 -- ---- a limit that is passed
 
 -- a script passes one limit first
-one_limit : (size : ℕ) (plans : List SessionPlan) (what other : Limit) → IsPast size plans what → IsPast size plans other → other ≡ what
+one_limit : (size : ℕ) (plans : List PlannedSession) (what other : Limit) → IsPast size plans what → IsPast size plans other → other ≡ what
 one_limit size plans what other a b =
     let first : limit_of size plans ≡ Some a.passed = a.is in
     let second : limit_of size plans ≡ Some b.passed = b.is in
@@ -113,18 +99,18 @@ same_limit size text what other a b =
     let good : script_of text ≡ Ok a.plans = a.meant in
     let good' : script_of text ≡ Ok b.plans = b.meant in
     let same : b.plans ≡ a.plans = cc in
-    one_limit size a.plans what other a.past (subst (λ (p : List SessionPlan). IsPast size p other) same b.past)
+    one_limit size a.plans what other a.past (subst (λ (p : List PlannedSession). IsPast size p other) same b.past)
 
 -- a script that passes a limit isn't within them
-not_within : (size : ℕ) (plans : List SessionPlan) (what : Limit) → IsPast size plans what → limit_of size plans ≡ None → ⊥
+not_within : (size : ℕ) (plans : List PlannedSession) (what : Limit) → IsPast size plans what → limit_of size plans ≡ None → ⊥
 not_within size plans what past fits = let passed : limit_of size plans ≡ Some past.passed = past.is in absurd (cc)
 
-text_not_within : (size : ℕ) (text : List ℕ) (what : Limit) (plans : List SessionPlan) → IsTextPast size text what → IsWithin size text plans → ⊥
+text_not_within : (size : ℕ) (text : List ℕ) (what : Limit) (plans : List PlannedSession) → IsTextPast size text what → IsWithinLimits size text plans → ⊥
 text_not_within size text what plans past within =
     let good : script_of text ≡ Ok past.plans = past.meant in
     let good' : script_of text ≡ Ok plans = within.meant in
     let same : plans ≡ past.plans = cc in
-    not_within size past.plans what past.past (subst (λ (p : List SessionPlan). limit_of size p ≡ None) same within.fits)
+    not_within size past.plans what past.past (subst (λ (p : List PlannedSession). limit_of size p ≡ None) same within.fits)
 
 limit_status : (size : ℕ) (text rest : List ℕ) (what : Limit) (e : StartError) → IsTextPast size text what → IsOfScript e → SaysOfScript size text rest e → IsDue IsUnread (TooLarge what) (start_status e)
 limit_status size text rest what error.Source past of says = inr (inl refl)
@@ -148,7 +134,7 @@ passed_limits_are_told scene status report text what left from past =
 
 -- ---- a generated script
 
-made_status : (size : ℕ) (plans : List SessionPlan) (what : Limit) (e : StartError) → IsPast size plans what → Makes size plans (Err e) → IsDue IsNoMemory (TooLarge what) (start_status e)
+made_status : (size : ℕ) (plans : List PlannedSession) (what : Limit) (e : StartError) → IsPast size plans what → Makes size plans (Err e) → IsDue IsNoMemory (TooLarge what) (start_status e)
 made_status size plans what error.Oom past says = inr refl
 made_status size plans what (error.TooLarge other) past says = inl (ap TooLarge (one_limit size plans what other past says))
 made_status size plans what error.Source past says = absurd says
@@ -157,7 +143,7 @@ made_status size plans what error.Disk past says = absurd says
 made_status size plans what error.NoTable past says = absurd says
 made_status size plans what (error.NoPart session part) past says = absurd says
 
-its_plans : (size : ℕ) (o : Option Making) (making : Making) (before after : SourceSeen) (plans : List SessionPlan) → o ≡ Some making → IsScriptOf size o before after plans → (plans ≡ plans_made making) × (limit_of size plans ≡ None)
+its_plans : (size : ℕ) (o : Option Making) (making : Making) (before after : SourceSeen) (plans : List PlannedSession) → o ≡ Some making → IsScriptOf size o before after plans → (plans ≡ plans_made making) × (limit_of size plans ≡ None)
 its_plans size o making before after plans is script = subst (λ (m : Option Making). IsScriptOf size m before after plans) is script
 
 its_making : (size : ℕ) (o : Option Making) (making : Making) (before after : SourceSeen) (e : StartError) → o ≡ Some making → SaysNoScript size o before after e → Makes size (plans_made making) (Err e)
@@ -168,7 +154,7 @@ made_limits_are_told scene status report making what left made past =
     ends_unread scene IsNoMemory (TooLarge what) status report left never
     (λ e unplayed. made_status scene.playing.size (plans_made making) what e past (its_making scene.playing.size scene.playing.making making scene.source scene.new_source e made unplayed.says))
   where
-    never : (plans : List SessionPlan) → IsScriptOf scene.playing.size scene.playing.making scene.source scene.new_source plans → ⊥
+    never : (plans : List PlannedSession) → IsScriptOf scene.playing.size scene.playing.making scene.source scene.new_source plans → ⊥
     never plans script =
         let its = its_plans scene.playing.size scene.playing.making making scene.source scene.new_source plans made script in
-        not_within scene.playing.size (plans_made making) what past (subst (λ (p : List SessionPlan). limit_of scene.playing.size p ≡ None) its.0 its.1)
+        not_within scene.playing.size (plans_made making) what past (subst (λ (p : List PlannedSession). limit_of scene.playing.size p ≡ None) its.0 its.1)

@@ -1,6 +1,8 @@
 //! Laws over what a run leaves, each the contract of a function that does nothing.
-ghost use Rattle.run_law.specs.Images.{AbsentTablesAreTold, LargeDisksAreTold, LargeImagesAreTold, LargeTablesAreTold, UnservedSessionsAreTold};
-ghost use Rattle.run_law.specs.Scripts.{BadScriptsAreTold, LongScriptsAreTold, MadeLimitsAreTold, PassedLimitsAreTold};
+ghost use Rattle.run_law.specs.Images.{AbsentTablesAreTold, LargeDisksAreTold, LargeImagesAreTold};
+ghost use Rattle.run_law.specs.Images.{LargeTablesAreTold, UnservedSessionsAreTold};
+ghost use Rattle.run_law.specs.Scripts.{BadScriptsAreTold, LongScriptsAreTold, MadeLimitsAreTold};
+ghost use Rattle.run_law.specs.Scripts.{PassedLimitsAreTold};
 
 /// A script with a bad line is refused by its first bad line and the first cause in it.
 pub fn bad_scripts_are_told()

@@ -1,4 +1,5 @@
-//! How a run ends, by the causes that its script and its image give: what the contract of the top call says together.
+//! How a run ends, by the causes that its script and its image give: what the contract of the top
+//! call says together.
 #![tactic(auto)]
 
 mod laws;

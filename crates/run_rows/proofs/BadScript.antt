@@ -1,26 +1,16 @@
 -- A run whose script has a bad line.
 use Rattle.std.proofs.Common.{◌≡◌, ◌⊎◌, ◌∙◌, inl, inr, ℕ, ◌+◌, ◌≤◌, List, [], ◌++◌, length, Some, None, Result, Ok, Err, refl, sym, ap, subst, arith, lit≤}
 use Rattle.std.proofs.lemmas.List.{length-append}
-use Rattle.host_report.specs.declared.report.Report.{Report}
-use Rattle.host_run.specs.Ending.{IsItsScript, IsNoScript, IsNoStart}
-use Rattle.host_run.specs.Refusals.{start_status}
-use Rattle.host_run.specs.Runs.{RunLeaves}
-use Rattle.host_run.specs.declared.status.RunStatus.{RunStatus}
-use Rattle.host_run.specs.declared.status.RunStatus.TheVariants.{BadScript, Done, NoTable, OutOfMemory, ScriptFault, TooLarge}
-use Rattle.host_start.specs.Reading.{SaysOfScript}
-use Rattle.host_start.specs.Refusals.{IsOfScript}
-use Rattle.host_start.specs.declared.error.Limit.{Limit}
+use Rattle.host_report.specs.{Report}
+use Rattle.host_run.specs.{IsItsScript, IsNoScript, IsNoStart, start_status, RunLeaves, RunStatus, BadScript, Done, NoTable, OutOfMemory, ScriptFault, TooLarge}
+use Rattle.host_start.specs.{SaysOfScript, IsOfScript, Limit, StartError}
 use Rattle.host_start.specs.declared.error.Limit.TheVariants as limit
-use Rattle.host_start.specs.declared.error.StartError.{StartError}
 use Rattle.host_start.specs.declared.error.StartError.TheVariants as error
 use Rattle.run_rows.proofs.Script.{bad_is_no_script, bad_means}
-use Rattle.run_rows.specs.BadScript.{BadScriptIsTold, bad_text, unplayed}
-use Rattle.script_model.specs.Plans.{SessionPlan}
-use Rattle.script_model.specs.declared.cause.ScriptCause.TheVariants.{BadNumber, UnknownWord}
-use Rattle.script_model.specs.declared.parse_error.ParseError.{ParseError}
-use Rattle.script_model.specs.declared.parse_error.ParseError.TheVariants.{Bad, Oom}
+use Rattle.run_rows.specs.{BadScriptIsTold, bad_text, unplayed}
+use Rattle.script_model.specs.{PlannedSession, BadNumber, UnknownWord, ParseError, Bad, Oom}
 
-no_plans : (plans : List SessionPlan) → IsItsScript unplayed plans → ⊥
+no_plans : (plans : List PlannedSession) → IsItsScript unplayed plans → ⊥
 no_plans plans script = bad_is_no_script plans (script refl).is.meant
 
 told : RunLeaves unplayed (BadScript 2 UnknownWord) None
@@ -46,7 +36,7 @@ told = record {
 abbrev IsEnd : RunStatus → Type 0
 IsEnd status = (status ≡ BadScript 2 UnknownWord) ⊎ ((status ≡ ScriptFault) ⊎ (status ≡ OutOfMemory))
 
-abbrev status_in : Result (List SessionPlan) ParseError → RunStatus
+abbrev status_in : Result (List PlannedSession) ParseError → RunStatus
 status_in (Ok plans) = Done
 status_in (Err Oom) = Done
 status_in (Err (Bad n cause)) = BadScript n cause

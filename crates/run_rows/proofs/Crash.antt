@@ -1,11 +1,10 @@
 -- What a crash leaves of the disk of the written run.
 use Rattle.std.proofs.Common.{◌≡◌, ◌∙◌, inl, inr, ℕ, zero, suc, ◌<◌, ◌≤◌, List, [], ◌∷◌, refl, ap, arith, lit<, lit≤}
-use Rattle.host_block.specs.Changes.{Change, content}
-use Rattle.host_block.specs.Crash.{IsCrashImage, IsVersion}
-use Rattle.host_block.specs.Disk.{IsCandidate, IsCrashOf, block_at}
-use Rattle.host_model.specs.Changes.{changes_of}
-use Rattle.run_rows.specs.Drive.{cells, image}
-use Rattle.run_rows.specs.Run.{report, unsynced, written}
+use Rattle.host_block.specs.{Change, content, IsCrashImage, IsVersion, IsCandidate, IsCrashOf, block_at}
+use Rattle.host_model.specs.{changes_of}
+use Rattle.run_rows.specs.{cells, unsynced, written}
+use Rattle.run_rows.specs.Drive.{image}
+use Rattle.run_rows.specs.Run.{report}
 
 abbrev pub changes : List Change
 changes = changes_of report.steps.items

@@ -1,15 +1,10 @@
 -- The table of the small disk, and its partition.
 use Rattle.std.proofs.Common.{◌≡◌, ◌≢◌, ℕ, zero, suc, ◌<◌, List, [], ◌∷◌, length, inl, inr, refl, arith, lit<, lit≤}
 use Rattle.std.specs.Prelude.{replicate, slice_index_or, Contains, IsTrue, not}
-use Rattle.host_gpt.specs.Entries.{AreUsed, entries_from, is_zero, units, used}
-use Rattle.host_gpt.specs.Header.{Agrees, number_at}
-use Rattle.host_gpt.specs.Table.{IsTable, IsValid}
-use Rattle.host_gpt.specs.declared.entry.Entry.{Entry}
-use Rattle.host_gpt.specs.declared.which.Which.TheVariants.{Primary}
-use Rattle.host_part.specs.Ranges.{IsRangeOf}
-use Rattle.host_part.specs.Served.{Layout, Shares}
-use Rattle.run_rows.specs.Drive.{header, image}
-use Rattle.run_rows.specs.Run.{partition}
+use Rattle.host_gpt.specs.{AreUsed, entries_from, is_zero, units, used, Agrees, number_at, IsTable, IsValid, Entry, Primary}
+use Rattle.host_part.specs.{IsRangeOf, Layout, Shares}
+use Rattle.run_rows.specs.{header, partition}
+use Rattle.run_rows.specs.Drive.{image}
 
 abbrev pub entry : Entry
 entry = record { number = 1; type_id = replicate 16 1; id = replicate 16 2; first = 3; last = 4; attributes = 0; name = 97 ∷ replicate 35 0 }

@@ -1,8 +1,8 @@
 -- Endings and slips, by computing.
 use Rattle.std.proofs.Common.{◌≡◌, refl, ap, arith}
-use Rattle.host_rings.specs.declared.slip.Slip.{Slip}
-use Rattle.host_record.specs.Command.{opcode}
-use Rattle.run_rows.specs.Endings.{EndingsAreAsWritten}
+use Rattle.host_rings.specs.{Slip}
+use Rattle.host_record.specs.{opcode}
+use Rattle.run_rows.specs.{EndingsAreAsWritten}
 
 pub endings_are_as_written : EndingsAreAsWritten
 unfolding opcode

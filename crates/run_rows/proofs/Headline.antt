@@ -1,37 +1,27 @@
 -- The headline of the written run, field by field.
 use Rattle.std.proofs.Common.{◌≡◌, inl, ℕ, Bool, true, false, List, [], ◌∷◌, Some, refl, sym, subst, lit≤, replicate}
 use Rattle.std.specs.Fmt.{digits}
+use Rattle.crash_law.proofs.Forced.{forced_writes_survive, own_flushes_keep}
 use Rattle.crash_law.proofs.Survival.{flushed_at_the_end, flushed_writes_survive}
-use Rattle.crash_law.specs.Survival.{KeepsAtEachMoment, KeepsFlushed}
-use Rattle.host_block.specs.Crash.{IsCrashImage}
-use Rattle.host_block.specs.Disk.{DiskState, IsCrashOf}
-use Rattle.host_io.specs.MemDisk.{state_of}
+use Rattle.crash_law.specs.{KeepsAtEachMoment, KeepsFlushed, KeepsForced, KeepsForcedAtEachMoment}
+use Rattle.host_block.specs.{IsCrashImage, DiskState, IsCrashOf}
+use Rattle.host_io.specs.{state_of}
 use Rattle.host_io.specs.declared.mem_disk.MemDisk.{MemDisk}
 use Rattle.model_rows.proofs.Lawful.{lawful_from}
-use Rattle.host_model.specs.Changes.{changes_of}
-use Rattle.host_model.specs.LawfulSession.{IsLawfulSession}
-use Rattle.host_model.specs.Verdict.{judged}
-use Rattle.host_record.specs.Command.{opcode}
-use Rattle.host_record.specs.Response.{response_fields}
+use Rattle.host_model.specs.{changes_of, IsLawfulSession, judged}
+use Rattle.host_record.specs.{opcode, response_fields}
 use Rattle.model_rows.proofs.Legal.{legal-from}
-use Rattle.host_report.specs.Lawful.{IsLawful, session_of}
-use Rattle.host_report.specs.Text.{report_text}
-use Rattle.host_run.specs.Ending.{IsItsScript}
-use Rattle.host_run.specs.Headline.{Headline, KeepsWhatWasFlushed, OutlivesCrash}
-use Rattle.host_run.specs.Played.{LeavesPlayed}
-use Rattle.host_run.specs.Runs.{RunLeaves}
-use Rattle.host_run.specs.Scene.{opening_image, site_of}
-use Rattle.host_run.specs.Writes.{TellsRun}
-use Rattle.host_run.specs.declared.status.RunStatus.TheVariants.{Done}
-use Rattle.play_law.specs.Runs.{IsLaidOut}
-use Rattle.report_law.specs.Runs.{IsLawfulOnAnyDisk}
+use Rattle.host_report.specs.{IsLawful, session_of, report_text}
+use Rattle.host_run.specs.{IsItsScript, KeepsWhatWasFlushed, OutlivesCrash, LeavesPlayed, RunLeaves, opening_image, site_of, TellsRun, Done}
+use Rattle.host_run.specs.Headline.{Headline, KeepsWhatWasForced}
+use Rattle.play_law.specs.{IsLaidOut, IsLawfulOnAnyDisk}
 use Rattle.run_rows.proofs.Drive.{are_used, entry, is_of_size, is_partition, is_table, layout}
 use Rattle.run_rows.proofs.Crash.{crash, changes, loses, written_is_missed}
 use Rattle.run_rows.proofs.Script.{within_limits}
 use Rattle.run_rows.specs.Drive.{image}
-use Rattle.run_rows.specs.Headline.{RunHasHeadline, WasGathered, copy_in, dry_scene}
-use Rattle.run_rows.specs.Run.{disk_in, log, partition, plans, printed, report, scene, script_text, session_on, unsynced, written}
-use Rattle.script_played.specs.Played.{PlaysPlans}
+use Rattle.run_rows.specs.{RunHasHeadline, WasGathered, copy_in, dry_scene, disk_in, partition, printed, scene, script_text, session_on, unsynced, written}
+use Rattle.run_rows.specs.Run.{log, plans, report}
+use Rattle.script_played.specs.{PlaysPlans}
 
 never : false ≡ true → ⊥
 never e = cc e
@@ -96,6 +86,12 @@ keeps = record {
   moments = λ told. flushed_writes_survive image report lawful;
 }
 
+forced : KeepsWhatWasForced (disk_in written) report
+forced = record {
+  kept = λ told left of. forced_writes_survive image report left lawful (crash left of);
+  moments = λ told. own_flushes_keep image report lawful;
+}
+
 -- ---- the headline
 
 headline : WasGathered → Headline (scene true script_text written) report
@@ -106,6 +102,7 @@ headline gathered = record {
   lawful = λ told. lawful;
   outlives = λ told. crash;
   keeps = keeps;
+  forced = forced;
 }
 
 untold : WasGathered → (state : DiskState) → Headline (scene false script_text state) report
@@ -116,6 +113,7 @@ untold gathered state = record {
   lawful = λ told. absurd (never told);
   outlives = λ told. absurd (never told);
   keeps = record { kept = λ told. absurd (never told); moments = λ told. absurd (never told) };
+  forced = record { kept = λ told. absurd (never told); moments = λ told. absurd (never told) };
 }
 
 -- where a copy was played on, that opened so and was left so
@@ -129,6 +127,10 @@ on_copy gathered copy opened left = record {
   keeps = record {
     kept = λ told after of. subst (λ (blocks : List (List ℕ)). KeepsFlushed blocks report report.steps.items after) (sym opened) (flushed_at_the_end image report after lawful (crash_of_copy after of));
     moments = λ told. subst (λ (blocks : List (List ℕ)). KeepsAtEachMoment blocks report) (sym opened) (flushed_writes_survive image report lawful);
+  };
+  forced = record {
+    kept = λ told after of. subst (λ (blocks : List (List ℕ)). KeepsForced blocks report after) (sym opened) (forced_writes_survive image report after lawful (crash_of_copy after of));
+    moments = λ told. subst (λ (blocks : List (List ℕ)). KeepsForcedAtEachMoment blocks report) (sym opened) (own_flushes_keep image report lawful);
   };
 }
   where
@@ -184,6 +186,7 @@ run_has_headline = record {
   lawful = λ told. lawful;
   outlives = λ told. crash;
   keeps = keeps;
+  forced = forced;
   headline = headline;
   leaves = λ gathered. leaves true written (headline gathered);
   untold = λ gathered state. leaves false state (untold gathered state);

@@ -5,6 +5,7 @@ pub mod Endings
 pub mod Headline
 pub mod Lines
 pub mod LostSteps
+pub mod ForcedWrites
 pub mod NoTable
 pub mod Reports
 pub mod Script
@@ -12,3 +13,7 @@ pub mod TableTexts
 pub mod Words
 pub mod WrongEnds
 pub mod WrongRuns
+pub mod Opened
+pub mod PlayLines
+pub mod PlayCrash
+pub mod Missing

@@ -1,7 +1,7 @@
 -- The lines of refusals.
 use Rattle.std.proofs.Common.{refl}
 use Rattle.std.specs.Fmt.{digits}
-use Rattle.run_rows.specs.Lines.{RefusalsHaveLines}
+use Rattle.run_rows.specs.{RefusalsHaveLines}
 
 pub refusals_have_lines : RefusalsHaveLines
 unfolding digits

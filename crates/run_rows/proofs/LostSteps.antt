@@ -3,35 +3,24 @@ use Rattle.std.proofs.Common.{◌≡◌, ◌∙◌, inl, inr, ℕ, zero, suc, �
 use Rattle.std.specs.List.{slice_get}
 use Rattle.std.proofs.lemmas.Bool.{eqb-true}
 use Rattle.crash_law.proofs.Survival.{flushed_at_the_end, flushed_writes_survive}
-use Rattle.crash_law.specs.Ended.{HasSurvived, IsDone, KeepsEnded, changes_blocks}
-use Rattle.crash_law.specs.Survival.{KeepsFlushed, WasFlushed, WerePutSince, WroteBlock}
-use Rattle.host_block.specs.Changes.{changes_block, content, put_by}
-use Rattle.host_block.specs.Crash.{IsCrashImage, IsVersion}
-use Rattle.host_block.specs.Disk.{IsCandidate, IsCrashOf, block_at, fresh}
+use Rattle.crash_law.specs.{HasSurvived, HasSucceeded, KeepsEnded, changes_blocks, KeepsFlushed, WasFlushed, WerePutSince, WroteBlock}
+use Rattle.host_block.specs.{changes_block, content, put_by, IsCrashImage, IsVersion, IsCandidate, IsCrashOf, block_at, fresh}
 use Rattle.host_block.specs.declared.op.Op.TheVariants as op
-use Rattle.host_model.specs.Changes.{change_of, changes_of}
-use Rattle.host_model.specs.LawfulSession.{IsLawfulSession}
-use Rattle.host_model.specs.Log.{request_at, requests, sending}
-use Rattle.host_model.specs.Order.{HadBefore}
-use Rattle.host_model.specs.Verdict.{judged}
-use Rattle.host_model.specs.declared.step.Step.{Step}
-use Rattle.host_record.specs.Command.{opcode}
-use Rattle.host_record.specs.declared.opcode.Opcode.{Opcode}
-use Rattle.host_record.specs.declared.opcode.Opcode.TheVariants.{Flush, Read}
+use Rattle.host_model.specs.{change_of, changes_of, IsLawfulSession, request_at, requests, sending, HadBefore, judged, Step}
+use Rattle.host_record.specs.{opcode, Opcode, Flush, Read}
 use Rattle.host_record.specs.declared.status.Status.TheVariants as status
-use Rattle.host_report.specs.Lawful.{IsLawful, session_of}
-use Rattle.host_report.specs.declared.session.SessionReport.{SessionReport}
-use Rattle.host_run.specs.Headline.{KeepsWhatWasFlushed}
+use Rattle.host_report.specs.{IsLawful, session_of, SessionReport}
+use Rattle.host_run.specs.{KeepsWhatWasFlushed}
 use Rattle.model_rows.proofs.Lawful.{lawful_from}
 use Rattle.model_rows.proofs.Legal.{legal-from}
-use Rattle.report_law.specs.Runs.{IsLawfulOnAnyDisk}
+use Rattle.play_law.specs.{IsLawfulOnAnyDisk}
 use Rattle.run_rows.proofs.Crash.{first_byte}
 use Rattle.run_rows.proofs.Drive.{entry, is_of_size, is_partition, is_table}
-use Rattle.run_rows.specs.Drive.{cells, image}
-use Rattle.run_rows.specs.LostSteps.{LostStepsAreRefused, failed_log, failed_session, failed_write, flushed_early}
-use Rattle.run_rows.specs.Run.{disk_in, log, partition, session_on, step, written}
+use Rattle.run_rows.specs.{cells, LostStepsAreRefused, failed_log, failed_session, failed_write, flushed_early, disk_in, partition, session_on, written}
+use Rattle.run_rows.specs.Drive.{image}
+use Rattle.run_rows.specs.Run.{log, step}
 
-never : false ≡ true → ⊥
+pub never : false ≡ true → ⊥
 never e = cc e
 
 -- what holds of a session holds of the one in a list of it alone
@@ -40,11 +29,11 @@ of_the_one P s e zero at p = let same : s ≡ e = cc in subst P same p
 of_the_one P s e (suc zero) at p = absurd (cc)
 of_the_one P s e (suc (suc n)) at p = absurd (cc)
 
-abbrev changes_of_step : ℕ → Option Step → Bool
+abbrev pub changes_of_step : ℕ → Option Step → Bool
 changes_of_step b (Some x) = changes_block (change_of x) b
 changes_of_step b None = false
 
-abbrev byte_of : Option Step → ℕ
+abbrev pub byte_of : Option Step → ℕ
 byte_of (Some x) = first_byte (put_by 512 x.op x.bytes)
 byte_of None = 0
 
@@ -94,7 +83,7 @@ on_image = record {
   };
 }
 
-none_done : (w : ℕ) (kind : Opcode) → changes_blocks kind ≡ true → ¬ IsDone (session_of failed_write failed_session) w kind
+none_done : (w : ℕ) (kind : Opcode) → changes_blocks kind ≡ true → ¬ HasSucceeded (session_of failed_write failed_session) w kind
 unfolding opcode
 none_done zero kind is done = let same : status.Io ≡ status.Ok = done.ended in absurd (cc)
 none_done (suc zero) kind is done = no_change Flush kind refl done.asks is
@@ -102,7 +91,7 @@ none_done (suc (suc w)) kind is done = absurd (let taken : suc (suc w) < 2 = don
 
 none_ended : (left : List (List ℕ)) → KeepsEnded image failed_write left
 none_ended left n e at = of_the_one
-    (λ (s : SessionReport). (w f : ℕ) (kind : Opcode) → changes_blocks kind ≡ true → IsDone (session_of failed_write s) w kind → IsDone (session_of failed_write s) f Flush → HadBefore (session_of failed_write s) (sending s.log.items f) w
+    (λ (s : SessionReport). (w f : ℕ) (kind : Opcode) → changes_blocks kind ≡ true → HasSucceeded (session_of failed_write s) w kind → HasSucceeded (session_of failed_write s) f Flush → HadBefore (session_of failed_write s) (sending s.log.items f) w
     → (k : ℕ) → k < (request_at (requests s.log.items) w).length
     → HasSurvived image failed_write.steps.items s.number w (s.range.first + (request_at (requests s.log.items) w).dev_offset + k) left)
     failed_session e n at
@@ -181,7 +170,7 @@ in_the_end left of n e at w f had flushed b place wrote = kept_at left of place 
 early_wrote : WroteBlock flushed_early.steps.items 1 0 3 1
 early_wrote = record { step = step 0 op.Write 3 (cells 7); stands = refl; names = (refl, refl); writes = refl }
 
-ended : (left : List (List ℕ)) → IsCrashOf written left → (w : ℕ) (kind : Opcode) → changes_blocks kind ≡ true → IsDone (session_of flushed_early (session_on 1 partition log)) w kind
+ended : (left : List (List ℕ)) → IsCrashOf written left → (w : ℕ) (kind : Opcode) → changes_blocks kind ≡ true → HasSucceeded (session_of flushed_early (session_on 1 partition log)) w kind
     → (k : ℕ) → k < (request_at (requests log) w).length → HasSurvived image flushed_early.steps.items 1 w (3 + (request_at (requests log) w).dev_offset + k) left
 unfolding opcode
 ended left of zero kind is done zero less = record { place = 1; wrote = early_wrote; left = in_three left of }
@@ -192,7 +181,7 @@ ended left of (suc (suc (suc w))) kind is done k less = absurd (let taken : suc 
 
 ended_kept : (left : List (List ℕ)) → IsCrashOf written left → KeepsEnded image flushed_early left
 ended_kept left of n e at = of_the_one
-    (λ (s : SessionReport). (w f : ℕ) (kind : Opcode) → changes_blocks kind ≡ true → IsDone (session_of flushed_early s) w kind → IsDone (session_of flushed_early s) f Flush → HadBefore (session_of flushed_early s) (sending s.log.items f) w
+    (λ (s : SessionReport). (w f : ℕ) (kind : Opcode) → changes_blocks kind ≡ true → HasSucceeded (session_of flushed_early s) w kind → HasSucceeded (session_of flushed_early s) f Flush → HadBefore (session_of flushed_early s) (sending s.log.items f) w
     → (k : ℕ) → k < (request_at (requests s.log.items) w).length
     → HasSurvived image flushed_early.steps.items s.number w (s.range.first + (request_at (requests s.log.items) w).dev_offset + k) left)
     (session_on 1 partition log) e n at

@@ -1,29 +1,20 @@
 -- A run whose image has no table.
 use Rattle.std.proofs.Common.{◌≡◌, ◌⊎◌, inl, inr, ℕ, ◌<◌, ◌≤◌, true, false, List, length, Some, None, [], refl, sym, ap, subst, arith, lit≤}
 use Rattle.std.specs.Prelude.{codes}
-use Rattle.host_gpt.specs.Table.{HasLarge, HasValid, IsChosen, TableIsAbsent}
-use Rattle.host_gpt.specs.declared.which.Which.{Which}
-use Rattle.host_gpt.specs.declared.which.Which.TheVariants.{Backup, Primary}
+use Rattle.host_gpt.specs.{HasLarge, HasValid, IsChosen, TableIsAbsent, Which, Backup, Primary}
 use Rattle.host_io.specs.declared.mem_disk.MemDisk.{MemDisk}
-use Rattle.host_report.specs.declared.report.Report.{Report}
-use Rattle.host_run.specs.Ending.{IsNoScript, IsNoStart}
-use Rattle.host_run.specs.Listed.{ListLeaves}
-use Rattle.host_run.specs.Played.{SaysCause}
-use Rattle.host_run.specs.Refusals.{start_status}
-use Rattle.host_run.specs.Runs.{RunLeaves}
-use Rattle.host_run.specs.Scene.{Scene, opening_image, site_of}
-use Rattle.host_run.specs.declared.status.RunStatus.{RunStatus}
-use Rattle.host_run.specs.declared.status.RunStatus.TheVariants.{NoTable, TooLarge}
-use Rattle.host_start.specs.Images.{IsSmallEnough}
+use Rattle.host_report.specs.{Report}
+use Rattle.host_run.specs.{IsNoScript, IsNoStart, ListLeaves, SaysCause, start_status, RunLeaves, opening_image, site_of, RunStatus, NoTable, TooLarge}
+use Rattle.host_run.specs.Scene.{Scene}
+use Rattle.host_start.specs.{IsSmallEnough, StartError}
 use Rattle.host_start.specs.declared.error.Limit.TheVariants as limit
-use Rattle.host_start.specs.declared.error.StartError.{StartError}
 use Rattle.host_start.specs.declared.error.StartError.TheVariants as error
 use Rattle.run_rows.proofs.Drive.{is_table}
 use Rattle.run_rows.proofs.Script.{within_limits}
 use Rattle.run_rows.specs.Drive.{image}
-use Rattle.run_rows.specs.NoTable.{NoTableIsTold, bare, dry_on, list_on, scene_on}
+use Rattle.run_rows.specs.{NoTableIsTold, bare, dry_on, list_on, scene_on}
 use Rattle.run_rows.specs.Run.{plans}
-use Rattle.script_model.specs.Plans.{SessionPlan}
+use Rattle.script_model.specs.{PlannedSession}
 
 none_valid : (which : Which) → ¬ HasValid bare which
 none_valid which valid = absurd (let blocks : 2 ≤ 1 = valid.0 in omega (arith, blocks))
@@ -73,7 +64,7 @@ not_played status report h = let on = (h.headline.lawful refl).on_table in none_
 
 -- what the refusal says
 abbrev CauseOf : Scene → StartError → Type 0
-CauseOf scene e = (plans : List SessionPlan) × SaysCause (site_of scene) plans e
+CauseOf scene e = (plans : List PlannedSession) × SaysCause (site_of scene) plans e
 
 -- no other error has the status
 by_status : (scene : Scene) (e : StartError) → NoTable ≡ start_status e → IsNoScript scene e ⊎ IsNoStart scene e → CauseOf scene error.NoTable

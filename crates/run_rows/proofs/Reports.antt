@@ -1,13 +1,10 @@
 -- Which statuses come with a report, and with a copy.
 use Rattle.std.proofs.Common.{◌≡◌, Bool, true, false, refl}
-use Rattle.host_report.specs.declared.closing.Closing.TheVariants.{Cut, Fault, Good}
-use Rattle.host_run.specs.Refusals.{refused_status}
-use Rattle.host_run.specs.Statuses.{played_status}
-use Rattle.host_run.specs.declared.refusal.Refusal.{Refusal}
+use Rattle.host_report.specs.{Cut, Fault, Good}
+use Rattle.host_run.specs.{refused_status, played_status, Refusal, ClosingFault, Done, NoTable, OutOfMemory, SinkFault}
 use Rattle.host_run.specs.declared.refusal.Refusal.TheVariants as refusal
-use Rattle.host_run.specs.declared.status.RunStatus.TheVariants.{ClosingFault, Done, NoTable, OutOfMemory, SinkFault}
 use Rattle.host_start.specs.declared.error.StartError.TheVariants as error
-use Rattle.run_rows.specs.Reports.{StatusesComeWithReports}
+use Rattle.run_rows.specs.{StatusesComeWithReports}
 
 never : ¬ (false ≡ true)
 never e = cc e

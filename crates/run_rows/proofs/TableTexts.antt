@@ -1,10 +1,8 @@
 -- The words of a table's text, by computing.
 use Rattle.std.proofs.Common.{◌≡◌, ℕ, List, refl, ap, arith, length}
 use Rattle.std.specs.Prelude.{get_or}
-use Rattle.host_list.specs.Guid.{guid_text}
-use Rattle.host_list.specs.Name.{name_text}
-use Rattle.host_list.specs.Text.{attributes_text}
-use Rattle.run_rows.specs.TableTexts.{TablesHaveTheirText}
+use Rattle.host_list.specs.{guid_text, name_text, attributes_text}
+use Rattle.run_rows.specs.{TablesHaveTheirText}
 
 pub tables_have_their_text : TablesHaveTheirText
 unfolding guid_text name_text attributes_text

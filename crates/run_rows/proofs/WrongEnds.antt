@@ -1,17 +1,14 @@
 -- Each wrong end is refused by a field of what a run leaves.
 use Rattle.std.proofs.Common.{◌≡◌, ◌∙◌, inl, inr, ℕ, zero, suc, ◌<◌, ◌≤◌, true, false, length, Some, None, refl, ap, arith, lit≤, replicate, []}
 use Rattle.std.specs.Prelude.{◌∷◌, slice_index_or}
-use Rattle.host_gpt.specs.declared.which.Which.TheVariants.{Primary}
-use Rattle.host_run.specs.Ending.{IsPlayable}
-use Rattle.host_run.specs.Runs.{RunLeaves}
-use Rattle.host_run.specs.Scene.{NoneFaulted}
-use Rattle.host_run.specs.declared.status.RunStatus.TheVariants.{ClosingFault, DiskFault, Done}
-use Rattle.host_start.specs.Images.{IsServedPart}
+use Rattle.host_gpt.specs.{Primary}
+use Rattle.host_run.specs.{IsScenePlayable, RunLeaves, NoneFaulted, ClosingFault, DiskFault, Done}
+use Rattle.host_start.specs.{IsServedPart}
 use Rattle.run_rows.proofs.Drive.{is_partition, is_table, layout}
 use Rattle.run_rows.proofs.Headline.{prints}
 use Rattle.run_rows.proofs.Script.{within_limits}
-use Rattle.run_rows.specs.Run.{partition, plans, report}
-use Rattle.run_rows.specs.WrongEnds.{WrongEndsAreRefused, cut_short, here, to_be_cut, to_be_dry, untold_with}
+use Rattle.run_rows.specs.{partition, WrongEndsAreRefused, cut_short, here, to_be_cut, to_be_dry, untold_with}
+use Rattle.run_rows.specs.Run.{plans, report}
 
 not_risen : ¬ (1 ≤ 0)
 not_risen rose = absurd (omega (arith, rose))
@@ -23,7 +20,7 @@ served : (k part : ℕ) → k < 1 → IsServedPart layout (slice_index_or (1 ∷
 served zero part within = (partition, is_partition)
 served (suc k) part within = absurd (omega (arith, within))
 
-playable : IsPlayable here
+playable : IsScenePlayable here
 playable = record {
   plans = plans;
   script = (refl, within_limits);

@@ -2,38 +2,28 @@
 use Rattle.std.proofs.Common.{◌≡◌, ◌≢◌, ◌∙◌, inl, ℕ, zero, suc, ◌<◌, Bool, true, false, List, [], ◌∷◌, Option, Some, None, Result, Ok, Err, refl, sym, ap, subst, arith, lit<, lit≤, replicate}
 use Rattle.std.specs.Prelude.{Contains}
 use Rattle.std.specs.List.{slice_get}
-use Rattle.crash_law.specs.Survival.{WasFlushed, WerePutSince, WroteBlock}
-use Rattle.host_block.specs.Changes.{changes_block, put_by}
-use Rattle.host_block.specs.Disk.{fresh}
+use Rattle.crash_law.specs.{WasFlushed, WerePutSince, WroteBlock}
+use Rattle.host_block.specs.{changes_block, put_by, fresh}
 use Rattle.host_block.specs.declared.op.Op.TheVariants as op
 use Rattle.host_gpt.proofs.LawLemmas.{one_table}
-use Rattle.host_gpt.specs.declared.entry.Entry.{Entry}
-use Rattle.host_gpt.specs.declared.which.Which.TheVariants.{Primary}
+use Rattle.host_gpt.specs.{Entry, Primary}
 use Rattle.model_rows.proofs.Lawful.{lawful_from}
-use Rattle.host_model.specs.Changes.{change_of}
-use Rattle.host_model.specs.LawfulSession.{IsLawfulSession}
-use Rattle.host_model.specs.Log.{sending}
-use Rattle.host_model.specs.Order.{HadBefore}
+use Rattle.host_model.specs.{change_of, IsLawfulSession, sending, HadBefore, judged, Step}
 use Rattle.host_model.specs.Session.{Session}
-use Rattle.host_model.specs.Verdict.{judged}
-use Rattle.host_model.specs.declared.step.Step.{Step}
 use Rattle.host_block.specs.declared.range.Range.{Range}
 use Rattle.host_part.proofs.RangeLemmas.{one_range, range_lies_inside, ranges_share_no_block}
-use Rattle.host_record.specs.Command.{opcode}
-use Rattle.host_report.specs.Lawful.{session_of}
-use Rattle.host_run.specs.Ending.{IsPlayed}
-use Rattle.host_run.specs.Headline.{IsLawfulOn, KeepsWhatWasFlushed, OutlivesCrash}
-use Rattle.play_law.specs.Runs.{IsLaidOut}
-use Rattle.report_law.specs.Runs.{IsLawfulOnAnyDisk}
+use Rattle.host_record.specs.{opcode}
+use Rattle.host_report.specs.{session_of}
+use Rattle.host_run.specs.{IsPlayed, IsLawfulOn, KeepsWhatWasFlushed, OutlivesCrash}
+use Rattle.play_law.specs.{IsLaidOut, IsLawfulOnAnyDisk}
 use Rattle.run_rows.proofs.Crash.{first_byte, loses, one_version, written_is_missed}
 use Rattle.run_rows.proofs.Drive.{entry, is_table, only_entry}
 use Rattle.run_rows.proofs.Script.{another_means, another_plans}
-use Rattle.run_rows.specs.Drive.{cells, image, image_of}
-use Rattle.run_rows.specs.Run.{disk_in, log, partition, report, scene, session_on, step, unsynced, written}
-use Rattle.run_rows.specs.WrongRuns.{WrongRunsAreRefused, another_text, no_answer, on_range, shared_block, stale_read, stale_session, step_outside, two_answers, two_ranges, with_log}
-use Rattle.script_model.specs.Plans.{SessionPlan}
-use Rattle.script_model.specs.declared.parse_error.ParseError.{ParseError}
-use Rattle.script_played.specs.Played.{PlaysPlans}
+use Rattle.run_rows.specs.{cells, image_of, disk_in, partition, scene, session_on, unsynced, written, WrongRunsAreRefused, another_text, no_answer, on_range, shared_block, stale_read, stale_session, step_outside, two_answers, two_ranges, with_log}
+use Rattle.run_rows.specs.Drive.{image}
+use Rattle.run_rows.specs.Run.{log, report, step}
+use Rattle.script_model.specs.{PlannedSession, ParseError}
+use Rattle.script_played.specs.{PlaysPlans}
 
 never : false ≡ true → ⊥
 unfolding opcode judged
@@ -41,7 +31,7 @@ never e = cc e
 
 -- ---- played
 
-abbrev plans_in : Result (List SessionPlan) ParseError → List SessionPlan
+abbrev plans_in : Result (List PlannedSession) ParseError → List PlannedSession
 plans_in (Ok plans) = plans
 plans_in (Err e) = []
 
@@ -51,7 +41,7 @@ not_played h = never h.0.calls
 another_script : ¬ IsPlayed (scene true another_text written) report
 another_script h =
     let same : another_plans ≡ h.plans = ap plans_in (sym another_means ∙ (h.script refl).is.meant) in
-    not_played (subst (λ (plans : List SessionPlan). PlaysPlans plans report) (sym same) h.is.played)
+    not_played (subst (λ (plans : List PlannedSession). PlaysPlans plans report) (sym same) h.is.played)
 
 -- ---- answered
 

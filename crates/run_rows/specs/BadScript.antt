@@ -28,7 +28,8 @@ unplayed = record {
 
 pub record BadScriptIsTold : Type 0 where
   pub told : RunLeaves unplayed (BadScript 2 UnknownWord) None
-  -- another line, another cause, a limit, a table that isn't there: none is the cause; and nothing was played
+  -- another line, another cause, a limit, a table that isn't there: none is the cause; and nothing
+  -- was played
   pub not_line : ¬ RunLeaves unplayed (BadScript 1 UnknownWord) None
   pub not_cause : ¬ RunLeaves unplayed (BadScript 2 BadNumber) None
   pub not_large : (what : Limit) → ¬ RunLeaves unplayed (TooLarge what) None

@@ -5,19 +5,21 @@ use Rattle.host_io.specs.MemDisk.{state_of}
 use Rattle.host_io.specs.declared.mem_disk.MemDisk.{MemDisk}
 use Rattle.host_play.specs.Plays.{IsReportOf}
 use Rattle.host_run.specs.Ending.{IsItsScript}
-use Rattle.host_run.specs.Headline.{Headline, IsLawfulOn, KeepsWhatWasFlushed, OutlivesCrash}
+use Rattle.host_run.specs.Headline.{Headline, IsLawfulOn, KeepsWhatWasFlushed, KeepsWhatWasForced, OutlivesCrash}
 use Rattle.host_run.specs.Played.{ranges_in}
 use Rattle.host_run.specs.Runs.{RunLeaves}
 use Rattle.host_run.specs.Scene.{PlayedDisk, Scene, opening_image, played_disk, site_of}
 use Rattle.host_run.specs.declared.status.RunStatus.TheVariants.{Done}
 use Rattle.play_law.specs.Runs.{IsLaidOut}
-use Rattle.report_law.specs.Runs.{IsLawfulOnAnyDisk}
+use Rattle.play_law.specs.LawfulRuns.{IsLawfulOnAnyDisk}
 use Rattle.script_played.specs.Played.{PlaysPlans}
 use Rattle.run_rows.specs.Drive.{image}
-use Rattle.run_rows.specs.Run.{disk_in, plans, playing, report, scene, script_text, unsynced, written}
+use Rattle.run_rows.specs.Run.{disk_in, plans, playing, report, scene, script_text, unsynced}
+use Rattle.run_rows.specs.Run.{written}
 
--- The one thing that isn't computed: that the report was gathered from a server that had these sessions. The ends of a server
--- have seats at its locks, which stand in memory, and a row has no memory.
+-- The one thing that isn't computed: that the report was gathered from a server that had these
+-- sessions. The ends of a server have seats at its locks, which stand in memory, and a row has no
+-- memory.
 abbrev pub WasGathered : Type 0
 WasGathered = IsReportOf plans (ranges_in report) 2 128 report
 
@@ -41,11 +43,15 @@ pub record RunHasHeadline : Type 0 where
   pub lawful : IsLawfulOn (disk_in written) report
   pub outlives : OutlivesCrash (disk_in written) report
   pub keeps : KeepsWhatWasFlushed (disk_in written) report
+  pub forced : KeepsWhatWasForced (disk_in written) report
   -- so a report that was gathered has the headline, and such a run ends with status 0 and this text
   pub headline : WasGathered → Headline (scene true script_text written) report
   pub leaves : WasGathered → RunLeaves (scene true script_text written) Done (Some report)
   -- a disk that doesn't tell promises nothing of its content, in whatever state it is left
-  pub untold : WasGathered → (state : DiskState) → RunLeaves (scene false script_text state) Done (Some report)
+  pub untold : WasGathered → (state : DiskState)
+      → RunLeaves (scene false script_text state) Done (Some report)
   -- nor does it have to where a copy was played on: the promises are of the copy
-  pub on_copy : WasGathered → (copy : MemDisk) → opening_image 512 copy ≡ image → state_of copy ≡ written → Headline (dry_scene copy) report
-  pub not_on_copy : (copy : MemDisk) → opening_image 512 copy ≡ image → state_of copy ≡ unsynced → ¬ OutlivesCrash (copy_in copy) report
+  pub on_copy : WasGathered → (copy : MemDisk) → opening_image 512 copy ≡ image
+      → state_of copy ≡ written → Headline (dry_scene copy) report
+  pub not_on_copy : (copy : MemDisk) → opening_image 512 copy ≡ image → state_of copy ≡ unsynced
+      → ¬ OutlivesCrash (copy_in copy) report

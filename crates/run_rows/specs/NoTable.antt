@@ -45,7 +45,8 @@ bare = cells 0 ∷ []
 -- a disk that tells nothing, with so many blocks, to be written or to be read alone
 abbrev pub untold : Bool → ℕ → DiskSeen
 untold writable blocks = record {
-  shape = record { tells = false; attached = true; writable = writable; blocks = blocks; size = 512 };
+  shape = record
+      { tells = false; attached = true; writable = writable; blocks = blocks; size = 512 };
   image_named = λ name size. [];
   state = fresh [];
   counts = record { faults = 0; reads = 1; writes = 0; syncs = 0 };
@@ -78,12 +79,17 @@ list_on writable blocks = record {
 pub record NoTableIsTold : Type 0 where
   pub told : RunLeaves (scene_on bare) NoTable None
   -- a report can't be of an image without a table, nor is the status due to an image that has one
-  pub not_played : (status : RunStatus) (report : Report) → ¬ RunLeaves (scene_on bare) status (Some report)
+  pub not_played : (status : RunStatus) (report : Report)
+      → ¬ RunLeaves (scene_on bare) status (Some report)
   pub has_table : ¬ RunLeaves (scene_on image) NoTable None
-  -- where the disk tells nothing the copy is the cause: one that opened without a table, and with as many blocks as the disk
-  pub copied : (copy : MemDisk) → opening_image 512 copy ≡ bare → RunLeaves (dry_on false 1 copy) NoTable None
-  pub copy_has_table : (copy : MemDisk) → opening_image 512 copy ≡ image → ¬ RunLeaves (dry_on false 5 copy) NoTable None
-  pub other_blocks : (copy : MemDisk) → opening_image 512 copy ≡ bare → ¬ RunLeaves (dry_on false 5 copy) NoTable None
+  -- where the disk tells nothing the copy is the cause: one that opened without a table, and with
+  -- as many blocks as the disk
+  pub copied : (copy : MemDisk) → opening_image 512 copy ≡ bare
+      → RunLeaves (dry_on false 1 copy) NoTable None
+  pub copy_has_table : (copy : MemDisk) → opening_image 512 copy ≡ image
+      → ¬ RunLeaves (dry_on false 5 copy) NoTable None
+  pub other_blocks : (copy : MemDisk) → opening_image 512 copy ≡ bare
+      → ¬ RunLeaves (dry_on false 5 copy) NoTable None
   -- the disk was attached to be read alone, and its five blocks aren't too many
   pub to_be_written : (copy : MemDisk) → ¬ RunLeaves (dry_on true 1 copy) NoTable None
   pub not_large : (copy : MemDisk) → ¬ RunLeaves (dry_on false 5 copy) (TooLarge limit.Blocks) None

@@ -1,4 +1,5 @@
--- A run that is written out: its client fills a page, writes it to the first block of its partition, flushes, and reads it back.
+-- A run that is written out: its client fills a page, writes it to the first block of its
+-- partition, flushes, and reads it back.
 use Rattle.std.specs.Prelude.{ℕ, Bool, true, false, List, [], ◌∷◌, ◌++◌, length, codes, None}
 use Rattle.host_block.specs.Disk.{DiskState, fresh}
 use Rattle.host_block.specs.Room.{WithRoom}
@@ -7,7 +8,8 @@ use Rattle.host_block.specs.declared.op.Op.TheVariants as op
 use Rattle.host_block.specs.declared.range.Range.{Range}
 use Rattle.host_gpt.specs.declared.which.Which.TheVariants.{Primary}
 use Rattle.host_model.specs.declared.event.Event.{Event}
-use Rattle.host_model.specs.declared.event.Event.TheVariants.{Attached, Drained, Filled, Received, Sent}
+use Rattle.host_model.specs.declared.event.Event.TheVariants.{Attached, Drained, Filled, Received}
+use Rattle.host_model.specs.declared.event.Event.TheVariants.{Sent}
 use Rattle.host_model.specs.declared.memory.MemEntry.{MemEntry}
 use Rattle.host_model.specs.declared.memory.MemEvent.{MemEvent}
 use Rattle.host_model.specs.declared.memory.MemEvent.TheVariants as memory
@@ -27,7 +29,7 @@ use Rattle.host_run.specs.Scene.{PlayedDisk, Scene, played_disk, site_of}
 use Rattle.host_run.specs.Seen.{DiskSeen}
 use Rattle.host_run.specs.Words.{Playing}
 use Rattle.host_run.specs.declared.mode.Text.TheVariants as text
-use Rattle.script_model.specs.Plans.{SessionPlan}
+use Rattle.script_model.specs.Plans.{PlannedSession}
 use Rattle.script_model.specs.declared.script.ScriptLine.TheVariants.{Attach, Fill, Send, WaitAll}
 use Rattle.run_rows.specs.Drive.{cells, image, image_of}
 
@@ -37,11 +39,22 @@ in_room xs = record { items = xs; room = length xs }
 -- ---- the script
 
 abbrev pub script_text : List ℕ
-script_text = codes "session 1\nattach 2\nfill 1 0 1 07\nwrite 10 1 0 0 1\nwait\nflush 20\nwait\nread 30 1 1 0 1\nwait\ndrain\n"
+script_text =
+    codes
+    "session 1\nattach 2\nfill 1 0 1 07\nwrite 10 1 0 0 1\nwait\nflush 20\nwait\nread 30 1 1 0 1\nwait\ndrain\n"
 
 -- a record on this buffer, from this page on, and the first block of the partition
 abbrev pub record_of : ℕ → ℕ → ℕ → ℕ → ℕ → List ℕ
-record_of command reqid buffer blocks page = request_bytes (record { command = command; reqid = reqid; group = 0; vmoid = buffer; length = blocks; vmo_offset = page; dev_offset = 0 })
+record_of command reqid buffer blocks page =
+    request_bytes (record {
+      command = command;
+      reqid = reqid;
+      group = 0;
+      vmoid = buffer;
+      length = blocks;
+      vmo_offset = page;
+      dev_offset = 0;
+    })
 
 abbrev pub write : List ℕ
 write = record_of 2 10 1 1 0
@@ -52,17 +65,27 @@ flush = record_of 3 20 0 0 0
 abbrev pub read : List ℕ
 read = record_of 1 30 1 1 1
 
-abbrev pub plans : List SessionPlan
-plans = record { part = 1; lines = Attach 2 ∷ Fill 1 0 1 7 ∷ Send write ∷ WaitAll ∷ Send flush ∷ WaitAll ∷ Send read ∷ WaitAll ∷ []; finish = Drain } ∷ []
+abbrev pub plans : List PlannedSession
+plans =
+    record {
+      part = 1;
+      lines = Attach 2 ∷ Fill 1 0 1 7 ∷ Send write ∷ WaitAll ∷ Send flush ∷ WaitAll ∷ Send read
+          ∷ WaitAll ∷ [];
+      finish = Drain;
+    } ∷ []
 
 -- ---- the report
 
 -- the answer to one record that ended well
 abbrev pub answer : ℕ → Event
-answer reqid = Received (response_bytes (record { status = status_number status.Ok; reqid = reqid; group = 0; count = 1 }))
+answer reqid =
+    Received (response_bytes
+    (record { status = status_number status.Ok; reqid = reqid; group = 0; count = 1 }))
 
 abbrev pub log : List Event
-log = Attached 2 1 ∷ Filled 1 0 1 7 true ∷ Sent 0 write ∷ answer 10 ∷ Sent 1 flush ∷ answer 20 ∷ Sent 2 read ∷ answer 30 ∷ Drained ∷ []
+log =
+    Attached 2 1 ∷ Filled 1 0 1 7 true ∷ Sent 0 write ∷ answer 10 ∷ Sent 1 flush ∷ answer 20
+    ∷ Sent 2 read ∷ answer 30 ∷ Drained ∷ []
 
 abbrev pub ended_well : TakenRow
 ended_well = record { verdict = Accepted; outcome = status.Ok }
@@ -81,7 +104,17 @@ buffer got =
 
 -- the one step of record i
 abbrev pub step : ℕ → Op → ℕ → List ℕ → Step
-step i kind block bytes = record { hand = 1; session = 1; index = i; k = 0; op = kind; block = block; bytes = bytes; faulted = false }
+step i kind block bytes =
+    record {
+      hand = 1;
+      session = 1;
+      index = i;
+      k = 0;
+      op = kind;
+      block = block;
+      bytes = bytes;
+      faulted = false;
+    }
 
 abbrev pub steps : List Step
 steps = step 0 op.Write 3 (cells 7) ∷ step 1 op.Flush 0 [] ∷ step 2 op.Read 3 (cells 7) ∷ []
@@ -136,10 +169,12 @@ printed =
 
 -- ---- what is outside
 
--- the disk, which tells its content or doesn't, before and after its image was attached, in this state
+-- the disk, which tells its content or doesn't, before and after its image was attached, in this
+-- state
 abbrev pub disk_seen : Bool → Bool → DiskState → DiskSeen
 disk_seen tells attached state = record {
-  shape = record { tells = tells; attached = attached; writable = attached; blocks = 5; size = 512 };
+  shape = record
+      { tells = tells; attached = attached; writable = attached; blocks = 5; size = 512 };
   image_named = λ name size. image;
   state = state;
   counts = record { faults = 0; reads = 2; writes = 1; syncs = 2 };
@@ -147,9 +182,20 @@ disk_seen tells attached state = record {
 }
 
 abbrev pub playing : Playing
-playing = record { name = codes "disk.img"; size = 512; workers = 2; depth = 128; cut = false; dry = false; told = text.Report false; making = None }
+playing =
+    record {
+      name = codes "disk.img";
+      size = 512;
+      workers = 2;
+      depth = 128;
+      cut = false;
+      dry = false;
+      told = text.Report false;
+      making = None;
+    }
 
--- `run disk.img` on a disk that tells or doesn't, on a source of this text, which leaves the disk in this state
+-- `run disk.img` on a disk that tells or doesn't, on a source of this text, which leaves the disk
+-- in this state
 abbrev pub scene : Bool → List ℕ → DiskState → Scene
 scene tells script state = record {
   playing = playing;

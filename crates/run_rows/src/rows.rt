@@ -1,6 +1,7 @@
 //! Rows that are written out.
 ghost use Rattle.run_rows.specs.BadScript.{BadScriptIsTold};
 ghost use Rattle.run_rows.specs.Endings.{EndingsAreAsWritten};
+ghost use Rattle.run_rows.specs.ForcedWrites.{ForcedWritesAreKept};
 ghost use Rattle.run_rows.specs.Headline.{RunHasHeadline};
 ghost use Rattle.run_rows.specs.Lines.{RefusalsHaveLines};
 ghost use Rattle.run_rows.specs.LostSteps.{LostStepsAreRefused};
@@ -36,22 +37,31 @@ pub fn wrong_runs_are_refused()
     ensures { WrongRunsAreRefused }
 {}
 
-/// Runs in which each write that ended well is kept in the end lose a step of a write that failed, or lose one in the middle.
+/// Runs in which each write that ended well is kept in the end lose a step of a write that failed,
+/// or lose one in the middle.
 pub fn lost_steps_are_refused()
     ensures { LostStepsAreRefused }
 {}
 
-/// What the run can't leave: another end, a part of its text, a closing flush that wasn't asked for.
+/// A forced write is kept with no other flush, and isn't answered 0 without its own.
+pub fn forced_writes_are_kept()
+    ensures { ForcedWritesAreKept }
+{}
+
+/// What the run can't leave: another end, a part of its text, a closing flush that wasn't asked
+/// for.
 pub fn wrong_ends_are_refused()
     ensures { WrongEndsAreRefused }
 {}
 
-/// A run whose script has a bad line ends with status 4, that line and its cause, and with nothing else.
+/// A run whose script has a bad line ends with status 4, that line and its cause, and with nothing
+/// else.
 pub fn a_bad_script_is_told()
     ensures { BadScriptIsTold }
 {}
 
-/// A run on an image without a table ends with status 3, and one on an image that has a table doesn't.
+/// A run on an image without a table ends with status 3, and one on an image that has a table
+/// doesn't.
 pub fn a_missing_table_is_told()
     ensures { NoTableIsTold }
 {}
@@ -61,7 +71,8 @@ pub fn tables_have_their_text()
     ensures { TablesHaveTheirText }
 {}
 
-/// How sessions end, for which records an answer is owed, and that the answer to a group isn't that to its last member.
+/// How sessions end, for which records an answer is owed, and that the answer to a group isn't that
+/// to its last member.
 pub fn endings_are_as_written()
     ensures { EndingsAreAsWritten }
 {}

@@ -1,12 +1,12 @@
 -- The judge's words for a script are those of a played script.
 use Rattle.std.proofs.Common.{◌≡◌, List, [], ◌∷◌, map, refl, ap, ◌∙◌}
-use Rattle.played_check.specs.Plans.{asked_by}
-use Rattle.script_check.specs.Asks.{asked_in}
-use Rattle.script_model.specs.declared.script.ScriptLine.{ScriptLine}
+use Rattle.played_check.specs.{played_ask}
+use Rattle.script_check.specs.{script_ask}
+use Rattle.script_model.specs.{ScriptLine}
 use Rattle.script_model.specs.declared.script.ScriptLine.TheVariants as line
-use Rattle.script_played.specs.Played.{ask_of}
+use Rattle.script_played.specs.{ask_of}
 
-asked_one : (l : ScriptLine) → asked_by (asked_in l) ≡ ask_of l
+asked_one : (l : ScriptLine) → played_ask (script_ask l) ≡ ask_of l
 asked_one (line.Attach pages) = refl
 asked_one (line.Fill id block count byte) = refl
 asked_one (line.Show id block count) = refl
@@ -14,6 +14,6 @@ asked_one (line.Send bytes) = refl
 asked_one line.WaitAll = refl
 asked_one (line.WaitFor total) = refl
 
-pub asked : (lines : List ScriptLine) → map asked_by (map asked_in lines) ≡ map ask_of lines
+pub asked : (lines : List ScriptLine) → map played_ask (map script_ask lines) ≡ map ask_of lines
 asked [] = refl
-asked (l ∷ ls) = ap (λ a. a ∷ map asked_by (map asked_in ls)) (asked_one l) ∙ ap (λ later. ask_of l ∷ later) (asked ls)
+asked (l ∷ ls) = ap (λ a. a ∷ map played_ask (map script_ask ls)) (asked_one l) ∙ ap (λ later. ask_of l ∷ later) (asked ls)

@@ -4,10 +4,10 @@ use Rattle.played_check.specs.declared.plan.Ask.TheVariants as ask
 use Rattle.script_model.specs.declared.script.ScriptLine.{ScriptLine}
 use Rattle.script_model.specs.declared.script.ScriptLine.TheVariants as line
 
-abbrev pub asked_in : ScriptLine → Ask
-asked_in (line.Attach pages) = ask.Attach pages
-asked_in (line.Fill id block count byte) = ask.Fill id block count byte
-asked_in (line.Show id block count) = ask.Show id block count
-asked_in (line.Send bytes) = ask.Send bytes
-asked_in line.WaitAll = ask.WaitAll
-asked_in (line.WaitFor total) = ask.WaitFor total
+abbrev pub script_ask : ScriptLine → Ask
+script_ask (line.Attach pages) = ask.Attach pages
+script_ask (line.Fill id block count byte) = ask.Fill id block count byte
+script_ask (line.Show id block count) = ask.Show id block count
+script_ask (line.Send bytes) = ask.Send bytes
+script_ask line.WaitAll = ask.WaitAll
+script_ask (line.WaitFor total) = ask.WaitFor total

@@ -1,7 +1,7 @@
 // What a script asks, as plans of the judge.
 ghost use Rattle.std.specs.Prelude.{◌≡◌, ◌↔◌, ◌++◌, IsTrue, IfOk, OnOk, map};
-ghost use Rattle.played_check.specs.Plans.{plan_of};
-ghost use Rattle.script_check.specs.Asks.{asked_in};
+ghost use Rattle.played_check.specs.Plans.{played_plan};
+ghost use Rattle.script_check.specs.Asks.{script_ask};
 ghost use Rattle.script_model.specs.Plans.{plan_of as session_plan};
 ghost use Rattle.script_played.specs.Played.{Plays, asked_of};
 
@@ -11,7 +11,7 @@ use played_check::{Ask, Plan, is_played};
 use std::alloc::{AllocError, Global};
 
 fn ask(line: &ScriptLine) -> Ask
-    ensures { result ≡ asked_in line.now }
+    ensures { result ≡ script_ask line.now }
 {
     match *line {
         ScriptLine::Attach { pages } => Ask::Attach { pages },
@@ -36,14 +36,14 @@ fn ask(line: &ScriptLine) -> Ask
 }
 
 fn asks(alloc: Global, lines: &[ScriptLine]) -> Result<Vec<Ask>, AllocError>
-    ensures { IfOk result (λ asks. asks.items ≡ map asked_in lines.now) }
+    ensures { IfOk result (λ asks. asks.items ≡ map script_ask lines.now) }
 {
     lines.iter().map(ask).collect(alloc)
 }
 
 #[tactic(auto, using(crate::proofs::AskLemmas::asked))]
 fn plan(alloc: Global, session: &SessionScript) -> Result<Plan, AllocError>
-    ensures { IfOk result (λ plan. plan_of plan ≡ asked_of (session_plan session.now)) }
+    ensures { IfOk result (λ plan. played_plan plan ≡ asked_of (session_plan session.now)) }
 {
     let asks = asks(alloc, session.lines.as_slice())?;
     Ok(Plan {
@@ -58,7 +58,8 @@ fn add_plans(
     plans: &mut Vec<Plan>,
     sessions: &[SessionScript],
 ) -> Result<(), AllocError>
-    ensures { OnOk result (map plan_of plans.new.items ≡ map plan_of plans.old.items ++ map asked_of (map session_plan sessions.now)) }
+    ensures { OnOk result (map played_plan plans.new.items
+        ≡ map played_plan plans.old.items ++ map asked_of (map session_plan sessions.now)) }
 {
     match sessions {
         [] => Ok(()),

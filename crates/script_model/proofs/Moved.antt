@@ -4,10 +4,7 @@ use Rattle.std.specs.Prelude.{ℕ, ◌*◌, ◌||◌, nat_lt, if◌then◌else�
 use Rattle.std.proofs.Math.ListN.{length-map}
 use Rattle.std.specs.List.{list_any, sum_by}
 use Rattle.std.proofs.lemmas.List.Sums.{sum_by-cons}
-use Rattle.script_model.specs.declared.script.SessionScript.{SessionScript}
-use Rattle.script_model.specs.Plans.{SessionPlan, plan_of}
-use Rattle.script_model.specs.Limit.{has_many_records, moved_by_lines, limit_of}
-use Rattle.script_model.specs.declared.limit.Limit.TheVariants.{Sessions, Records, Moved}
+use Rattle.script_model.specs.{SessionScript, PlannedSession, plan_of, has_many_records, moved_by_lines, limit_of, Sessions, Records, Moved}
 
 pub any_of_plans : (sessions : List SessionScript) → list_any (λ s. has_many_records s.lines) (map plan_of sessions) ≡ list_any (λ s. has_many_records s.lines.items) sessions
 any_of_plans [] = refl
@@ -16,7 +13,7 @@ any_of_plans (s ∷ sessions) = ap (λ b. has_many_records s.lines.items || b) (
 pub sum_of_plans : (sessions : List SessionScript) → sum_by (λ s. moved_by_lines s.lines) (map plan_of sessions) ≡ sum_by (λ s. moved_by_lines s.lines.items) sessions
 sum_of_plans [] = refl
 sum_of_plans (s ∷ sessions) =
-    sum_by-cons (λ (p : SessionPlan). moved_by_lines p.lines) (plan_of s) (map plan_of sessions)
+    sum_by-cons (λ (p : PlannedSession). moved_by_lines p.lines) (plan_of s) (map plan_of sessions)
     ∙ ap (λ n. moved_by_lines s.lines.items + n) (sum_of_plans sessions)
     ∙ sym (sum_by-cons (λ (p : SessionScript). moved_by_lines p.lines.items) s sessions)
 

@@ -1,21 +1,11 @@
 -- What the named line of a record says.
-use Rattle.std.proofs.Common.{◌≡◌, ℕ, ◌+◌, ◌<◌, ◌≤◌, ◌^◌, Bool, true, false, cond, ◌&&◌, nat_le, List, [], ◌∷◌, refl, ap, ◌∙◌, arith, Result, Ok, Err, decimal, codes}
+use Rattle.std.proofs.Common.{◌≡◌, ℕ, ◌+◌, ◌<◌, ◌≤◌, ◌^◌, Bool, true, false, cond, ◌&&◌, nat_le, List, [], ◌∷◌, ◌++◌, refl, ap, ◌∙◌, arith, Result, Ok, Err, decimal, codes}
 use Rattle.std.specs.Prelude.{◌==◌, ◌||◌}
 use Rattle.std.specs.Str.{bytes_eq}
 use Rattle.host_record.specs.declared.request.Request.{Request}
-use Rattle.host_record.specs.declared.opcode.Opcode.{Opcode}
+use Rattle.host_record.specs.{Opcode, is_forced, request_bytes, request_of}
 use Rattle.host_record.specs.declared.opcode.Opcode.TheVariants as op
-use Rattle.host_record.specs.Request.{request_bytes, request_of}
-use Rattle.script_model.specs.declared.cause.ScriptCause.{ScriptCause}
-use Rattle.script_model.specs.declared.cause.ScriptCause.TheVariants.{BadNumber}
-use Rattle.script_model.specs.declared.statement.Statement.{Statement}
-use Rattle.script_model.specs.Arguments.{group_bits, group_number}
-use Rattle.script_model.specs.Keyword.{keyword_of}
-use Rattle.script_model.specs.Lines.{statement, sends, transfer_line, flush_line, trim_line, close_line}
-use Rattle.script_model.specs.Named.{high_bits, named_bits, named_group, has_named_group, named_request}
-use Rattle.script_model.specs.Numbers.{number}
-use Rattle.script_model.specs.Print.{is_sending, is_named, named_words, says}
-use Rattle.script_model.specs.Steps.{◌>>=◌}
+use Rattle.script_model.specs.{ScriptCause, BadNumber, Statement, force_bit, group_bits, group_number, keyword_of, statement, sends, transfer_line, write_line, flush_line, trim_line, close_line, force_of, high_bits, named_bits, named_group, has_named_group, named_request, number, is_sending, is_named, named_words, says, ◌>>=◌}
 use Rattle.script_model.proofs.PrintedValues.{decimal_value-decimal, le_true, number-decimal}
 
 -- the group words that are printed, by what the bits above the opcode are
@@ -59,13 +49,23 @@ says_read true last g reqid id buffer block len a b c d e = rw (number-decimal 0
 says_read false true g reqid id buffer block len a b c d e = rw (number-decimal 0 4294967295 reqid (omega arith) a (omega arith), number-decimal 0 65535 id (omega arith) b (omega arith), number-decimal 0 18446744073709551615 buffer (omega arith) c (omega arith), number-decimal 0 18446744073709551615 block (omega arith) d (omega arith), number-decimal 0 4294967295 len (omega arith) e (omega arith))
 says_read false false g reqid id buffer block len a b c d e = rw (number-decimal 0 4294967295 reqid (omega arith) a (omega arith), number-decimal 0 65535 id (omega arith) b (omega arith), number-decimal 0 18446744073709551615 buffer (omega arith) c (omega arith), number-decimal 0 18446744073709551615 block (omega arith) d (omega arith), number-decimal 0 4294967295 len (omega arith) e (omega arith))
 
-says_write : (member last : Bool) (g reqid id buffer block len : ℕ) → reqid ≤ 4294967295 → id ≤ 65535 → buffer ≤ 18446744073709551615 → block ≤ 18446744073709551615 → len ≤ 4294967295
-    → says (codes "write" ∷ decimal reqid ∷ decimal id ∷ decimal buffer ∷ decimal block ∷ decimal len ∷ tail member last g)
-    ≡ said member last g (λ bits group. record { command = 2 + bits; reqid = reqid; group = group; vmoid = id; length = len; vmo_offset = buffer; dev_offset = block })
-unfolding keyword_of statement transfer_line group_bits group_number
-says_write true last g reqid id buffer block len a b c d e = rw (number-decimal 0 4294967295 reqid (omega arith) a (omega arith), number-decimal 0 65535 id (omega arith) b (omega arith), number-decimal 0 18446744073709551615 buffer (omega arith) c (omega arith), number-decimal 0 18446744073709551615 block (omega arith) d (omega arith), number-decimal 0 4294967295 len (omega arith) e (omega arith))
-says_write false true g reqid id buffer block len a b c d e = rw (number-decimal 0 4294967295 reqid (omega arith) a (omega arith), number-decimal 0 65535 id (omega arith) b (omega arith), number-decimal 0 18446744073709551615 buffer (omega arith) c (omega arith), number-decimal 0 18446744073709551615 block (omega arith) d (omega arith), number-decimal 0 4294967295 len (omega arith) e (omega arith))
-says_write false false g reqid id buffer block len a b c d e = rw (number-decimal 0 4294967295 reqid (omega arith) a (omega arith), number-decimal 0 65535 id (omega arith) b (omega arith), number-decimal 0 18446744073709551615 buffer (omega arith) c (omega arith), number-decimal 0 18446744073709551615 block (omega arith) d (omega arith), number-decimal 0 4294967295 len (omega arith) e (omega arith))
+-- the word that forces a write, and the bit that it stands for
+abbrev forcing : Bool → List (List ℕ)
+forcing forced = cond forced (codes "force" ∷ []) []
+
+abbrev force_by : Bool → ℕ
+force_by forced = cond forced 0x1000 0
+
+says_write : (forced member last : Bool) (g reqid id buffer block len : ℕ) → reqid ≤ 4294967295 → id ≤ 65535 → buffer ≤ 18446744073709551615 → block ≤ 18446744073709551615 → len ≤ 4294967295
+    → says (codes "write" ∷ decimal reqid ∷ decimal id ∷ decimal buffer ∷ decimal block ∷ decimal len ∷ (forcing forced ++ tail member last g))
+    ≡ said member last g (λ bits group. record { command = 2 + force_by forced + bits; reqid = reqid; group = group; vmoid = id; length = len; vmo_offset = buffer; dev_offset = block })
+unfolding keyword_of statement write_line transfer_line force_bit group_bits group_number
+says_write true true last g reqid id buffer block len a b c d e = rw (number-decimal 0 4294967295 reqid (omega arith) a (omega arith), number-decimal 0 65535 id (omega arith) b (omega arith), number-decimal 0 18446744073709551615 buffer (omega arith) c (omega arith), number-decimal 0 18446744073709551615 block (omega arith) d (omega arith), number-decimal 0 4294967295 len (omega arith) e (omega arith))
+says_write true false true g reqid id buffer block len a b c d e = rw (number-decimal 0 4294967295 reqid (omega arith) a (omega arith), number-decimal 0 65535 id (omega arith) b (omega arith), number-decimal 0 18446744073709551615 buffer (omega arith) c (omega arith), number-decimal 0 18446744073709551615 block (omega arith) d (omega arith), number-decimal 0 4294967295 len (omega arith) e (omega arith))
+says_write true false false g reqid id buffer block len a b c d e = rw (number-decimal 0 4294967295 reqid (omega arith) a (omega arith), number-decimal 0 65535 id (omega arith) b (omega arith), number-decimal 0 18446744073709551615 buffer (omega arith) c (omega arith), number-decimal 0 18446744073709551615 block (omega arith) d (omega arith), number-decimal 0 4294967295 len (omega arith) e (omega arith))
+says_write false true last g reqid id buffer block len a b c d e = rw (number-decimal 0 4294967295 reqid (omega arith) a (omega arith), number-decimal 0 65535 id (omega arith) b (omega arith), number-decimal 0 18446744073709551615 buffer (omega arith) c (omega arith), number-decimal 0 18446744073709551615 block (omega arith) d (omega arith), number-decimal 0 4294967295 len (omega arith) e (omega arith))
+says_write false false true g reqid id buffer block len a b c d e = rw (number-decimal 0 4294967295 reqid (omega arith) a (omega arith), number-decimal 0 65535 id (omega arith) b (omega arith), number-decimal 0 18446744073709551615 buffer (omega arith) c (omega arith), number-decimal 0 18446744073709551615 block (omega arith) d (omega arith), number-decimal 0 4294967295 len (omega arith) e (omega arith))
+says_write false false false g reqid id buffer block len a b c d e = rw (number-decimal 0 4294967295 reqid (omega arith) a (omega arith), number-decimal 0 65535 id (omega arith) b (omega arith), number-decimal 0 18446744073709551615 buffer (omega arith) c (omega arith), number-decimal 0 18446744073709551615 block (omega arith) d (omega arith), number-decimal 0 4294967295 len (omega arith) e (omega arith))
 
 says_flush : (member last : Bool) (g reqid : ℕ) → reqid ≤ 4294967295
     → says (codes "flush" ∷ decimal reqid ∷ tail member last g)
@@ -105,14 +105,14 @@ pub record IsSized (r : Request) : Type 0 where
 -- the request that a line of this kind spells, with these bits and that group
 abbrev spelled : Opcode → Request → ℕ → ℕ → Request
 spelled op.Read r bits group = record { command = 1 + bits; reqid = r.reqid; group = group; vmoid = r.vmoid; length = r.length; vmo_offset = r.vmo_offset; dev_offset = r.dev_offset }
-spelled op.Write r bits group = record { command = 2 + bits; reqid = r.reqid; group = group; vmoid = r.vmoid; length = r.length; vmo_offset = r.vmo_offset; dev_offset = r.dev_offset }
+spelled op.Write r bits group = record { command = 2 + force_of r + bits; reqid = r.reqid; group = group; vmoid = r.vmoid; length = r.length; vmo_offset = r.vmo_offset; dev_offset = r.dev_offset }
 spelled op.Flush r bits group = record { command = 3 + bits; reqid = r.reqid; group = group; vmoid = 0; length = 0; vmo_offset = 0; dev_offset = 0 }
 spelled op.Trim r bits group = record { command = 4 + bits; reqid = r.reqid; group = group; vmoid = 0; length = r.length; vmo_offset = 0; dev_offset = r.dev_offset }
 spelled op.Close r bits group = record { command = 5 + bits; reqid = r.reqid; group = group; vmoid = r.vmoid; length = 0; vmo_offset = 0; dev_offset = 0 }
 
 says_spelled : (code : Opcode) (r : Request) → IsSized r → says (named_words code r) ≡ said (high_bits r == 0x800) (high_bits r == 0xc00) r.group (spelled code r)
 says_spelled op.Read r s = says_read (high_bits r == 0x800) (high_bits r == 0xc00) r.group r.reqid r.vmoid r.vmo_offset r.dev_offset r.length s.reqid s.vmoid s.vmo_offset s.dev_offset s.length
-says_spelled op.Write r s = says_write (high_bits r == 0x800) (high_bits r == 0xc00) r.group r.reqid r.vmoid r.vmo_offset r.dev_offset r.length s.reqid s.vmoid s.vmo_offset s.dev_offset s.length
+says_spelled op.Write r s = says_write (is_forced r) (high_bits r == 0x800) (high_bits r == 0xc00) r.group r.reqid r.vmoid r.vmo_offset r.dev_offset r.length s.reqid s.vmoid s.vmo_offset s.dev_offset s.length
 says_spelled op.Flush r s = says_flush (high_bits r == 0x800) (high_bits r == 0xc00) r.group r.reqid s.reqid
 says_spelled op.Trim r s = says_trim (high_bits r == 0x800) (high_bits r == 0xc00) r.group r.reqid r.dev_offset r.length s.reqid s.dev_offset s.length
 says_spelled op.Close r s = says_close (high_bits r == 0x800) (high_bits r == 0xc00) r.group r.reqid r.vmoid s.reqid s.vmoid

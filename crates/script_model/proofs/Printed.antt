@@ -6,8 +6,8 @@ use Rattle.std.specs.Str.Lines.{lines, lines_of_parts, strip_carriage_return}
 use Rattle.std.proofs.lemmas.List.Splits.{slice_split-cons_yes, slice_split-cons_no, length-slice_split}
 use Rattle.std.proofs.lemmas.List.Sums.{take_while-cons}
 use Rattle.std.proofs.lemmas.Bool.Decides.{eqb_tells}
-use Rattle.host_text.specs.Words.{line}
-use Rattle.script_model.specs.Words.{words, is_blank, begins_comment, is_allowed, all_allowed}
+use Rattle.host_text.specs.{line}
+use Rattle.script_model.specs.{words, is_blank, begins_comment, is_allowed, all_allowed}
 use Rattle.script_model.proofs.FirstLine.{lines_more}
 use Rattle.script_model.proofs.PrintedValues.{and_true, le_from, le_true}
 

@@ -1,22 +1,9 @@
 -- What is printed of a line says that line again.
 use Rattle.std.proofs.Common.{◌≡◌, ℕ, ◌≤◌, Bool, true, false, cond, List, [], ◌∷◌, refl, ap, arith, Option, Some, None, Result, Ok, Err}
 use Rattle.std.proofs.lemmas.Slice.Eq.{bytes_eq-Decides}
-use Rattle.host_record.specs.declared.opcode.Opcode.{Opcode}
-use Rattle.host_record.specs.declared.finish.Finish.{Finish}
-use Rattle.host_record.specs.declared.finish.Finish.TheVariants.{Drain, Abort}
-use Rattle.host_record.specs.Request.{request_of}
-use Rattle.host_record.specs.Command.{opcode}
-use Rattle.host_text.specs.Words.{hex_byte, hex}
-use Rattle.script_model.specs.declared.cause.ScriptCause.{ScriptCause}
-use Rattle.script_model.specs.declared.statement.Statement.{Statement}
-use Rattle.script_model.specs.declared.statement.Statement.TheVariants.{Begin, Do, End}
-use Rattle.script_model.specs.declared.script.ScriptLine.{ScriptLine}
-use Rattle.script_model.specs.declared.script.ScriptLine.TheVariants.{Attach, Fill, Show, Send, WaitAll, WaitFor}
-use Rattle.script_model.specs.Numbers.{hex_bytes}
-use Rattle.script_model.specs.Keyword.{keyword_of}
-use Rattle.script_model.specs.Arguments.{has_count}
-use Rattle.script_model.specs.Lines.{statement, attach_line, fill_line, show_line, raw_line, wait_line, end_line}
-use Rattle.script_model.specs.Print.{says, is_sending, is_named, named_words, raw_words, named_or_raw, send_words, line_words, end_word}
+use Rattle.host_record.specs.{Opcode, Finish, Drain, Abort, request_of, opcode}
+use Rattle.host_text.specs.{hex_byte, hex}
+use Rattle.script_model.specs.{ScriptCause, Statement, Begin, Do, End, ScriptLine, Attach, Fill, Show, Send, WaitAll, WaitFor, hex_bytes, keyword_of, has_count, statement, attach_line, fill_line, show_line, raw_line, wait_line, end_line, says, is_sending, is_named, named_words, raw_words, named_or_raw, send_words, line_words, end_word}
 use Rattle.script_model.proofs.PrintedValues.{number-decimal}
 
 pub says_attach : (pages : ℕ) → 1 ≤ pages → pages ≤ 4096 → says (line_words (Attach pages)) ≡ Ok (Do (Attach pages))

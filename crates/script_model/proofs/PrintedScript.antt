@@ -5,27 +5,11 @@ use Rattle.std.specs.List.{list_all}
 use Rattle.std.specs.Str.Lines.{lines}
 use Rattle.std.proofs.lemmas.Bool.{eqb-true}
 use Rattle.std.proofs.lemmas.Grind.{flat_map-append}
-use Rattle.host_text.specs.Words.{hex, hex_byte, line}
+use Rattle.host_text.specs.{hex, hex_byte, line}
 use Rattle.hex.proofs.HexLemmas.{decode_sized-encode_lower}
-use Rattle.script_model.specs.declared.cause.ScriptCause.{ScriptCause}
-use Rattle.script_model.specs.declared.parse_error.ParseError.{ParseError}
+use Rattle.script_model.specs.{ScriptCause, ParseError, Statement, Begin, Do, End, ScriptLine, Attach, Fill, Show, Send, WaitAll, WaitFor, words, all_allowed, hex_bytes, ◌>>=◌, word, has_count, keyword_of, statement, session_line, nothing_yet, plans, added, is_session, may_stand, may_wait, waits_enough, meaning, PlannedSession, owed, after_line, after_lines, plans_after, script_of, fits_line, fits_lines, fits_plan, can_be_said, is_between, says, line_words, line_text, end_word, session_script_text, script_text}
 use Rattle.script_model.specs.declared.keyword.Keyword.{Keyword}
-use Rattle.script_model.specs.declared.statement.Statement.{Statement}
-use Rattle.script_model.specs.declared.statement.Statement.TheVariants.{Begin, Do, End}
-use Rattle.script_model.specs.declared.script.ScriptLine.{ScriptLine}
-use Rattle.script_model.specs.declared.script.ScriptLine.TheVariants.{Attach, Fill, Show, Send, WaitAll, WaitFor}
-use Rattle.script_model.specs.Words.{words, all_allowed}
-use Rattle.script_model.specs.Numbers.{hex_bytes}
-use Rattle.script_model.specs.Steps.{◌>>=◌}
-use Rattle.script_model.specs.Arguments.{word, has_count}
-use Rattle.script_model.specs.Keyword.{keyword_of}
-use Rattle.script_model.specs.Lines.{statement, session_line}
-use Rattle.script_model.specs.Draft.{Draft, nothing_yet, plans, added, is_session, may_stand, may_wait, waits_enough, meaning}
-use Rattle.script_model.specs.Plans.{SessionPlan}
-use Rattle.script_model.specs.Owed.{owed}
-use Rattle.script_model.specs.Script.{after_line, after_lines, plans_after, script_of}
-use Rattle.script_model.specs.Planned.{fits_line, fits_lines, fits_plan, can_be_said, is_between}
-use Rattle.script_model.specs.Print.{says, line_words, line_text, end_word, session_text, script_text}
+use Rattle.script_model.specs.Draft.{Draft}
 use Rattle.script_model.proofs.Printed.{is_word, joined, ne_false, allowed_words, words_joined, lines_printed, all_append}
 use Rattle.script_model.proofs.HexText.{hex-encode_lower}
 use Rattle.script_model.proofs.PrintedLines.{says_attach, says_show, says_fill, says_wait, says_wait_for, says_send, says_end}
@@ -33,17 +17,17 @@ use Rattle.script_model.proofs.PrintedValues.{and_true, le_from, number-decimal}
 use Rattle.script_model.proofs.PrintedWords.{word_first, number_first, no_words, hex_is_word, send_is_words, end_is_words}
 
 -- the words of all lines
-abbrev session_words : SessionPlan → List (List (List ℕ))
+abbrev session_words : PlannedSession → List (List (List ℕ))
 session_words s = (codes "session" ∷ decimal s.part ∷ []) ∷ map line_words s.lines ++ (end_word s.finish ∷ []) ∷ []
 
-abbrev script_words : List SessionPlan → List (List (List ℕ))
+abbrev script_words : List PlannedSession → List (List (List ℕ))
 script_words plans = flat_map session_words plans
 
 map_lines : (ls : List ScriptLine) → flat_map line (map line_words ls) ≡ flat_map line_text ls
 map_lines [] = refl
 map_lines (l ∷ ls) = ap (λ (t : List ℕ). line (line_words l) ++ t) (map_lines ls)
 
-session_lines : (s : SessionPlan) → flat_map line (session_words s) ≡ session_text s
+session_lines : (s : PlannedSession) → flat_map line (session_words s) ≡ session_script_text s
 session_lines s =
     let first : List ℕ = line (codes "session" ∷ decimal s.part ∷ []) in
     let last : List ℕ = line (end_word s.finish ∷ []) in
@@ -52,30 +36,30 @@ session_lines s =
     ∙ ap (λ (t : List ℕ). t ++ (last ++ [])) (map_lines s.lines) ∙ ap (λ (t : List ℕ). flat_map line_text s.lines ++ t) (append-nil last))
     ∙ sym (append_assoc first (flat_map line_text s.lines) last)
 
-script_lines : (ss : List SessionPlan) → flat_map line (script_words ss) ≡ script_text ss
+script_lines : (ss : List PlannedSession) → flat_map line (script_words ss) ≡ script_text ss
 script_lines [] = refl
 script_lines (s ∷ ss) =
     flat_map-append line (session_words s) (script_words ss)
     ∙ ap (λ (t : List ℕ). t ++ flat_map line (script_words ss)) (session_lines s)
-    ∙ ap (λ (t : List ℕ). session_text s ++ t) (script_lines ss)
+    ∙ ap (λ (t : List ℕ). session_script_text s ++ t) (script_lines ss)
 
 -- a session that is being read
-abbrev reading : List SessionPlan → ℕ → List ScriptLine → Draft
+abbrev reading : List PlannedSession → ℕ → List ScriptLine → Draft
 reading past part before = record { past = past; current = Some (record { part = part; lines = before; finish = None }) }
 
 same_twice : {A : Type 0} (b : Bool) (x : A) → cond b x x ≡ x
 same_twice true x = refl
 same_twice false x = refl
 
-stands : (past : List SessionPlan) (part : ℕ) (before : List ScriptLine) (key : Keyword) → may_stand (reading past part before) key ≡ Ok tt
+stands : (past : List PlannedSession) (part : ℕ) (before : List ScriptLine) (key : Keyword) → may_stand (reading past part before) key ≡ Ok tt
 unfolding may_stand
 stands past part before key = same_twice (is_session key) (Ok tt)
 
-key_meaning : (past : List SessionPlan) (part : ℕ) (before : List ScriptLine) (ws : List (List ℕ)) (s : Statement) (key : Result Keyword ScriptCause) → (key >>= λ k. statement k ws) ≡ Ok s → may_wait (reading past part before) s ≡ Ok tt → (key >>= λ k. may_stand (reading past part before) k >>= λ _. statement k ws >>= λ t. may_wait (reading past part before) t >>= λ _. Ok t) ≡ Ok s
+key_meaning : (past : List PlannedSession) (part : ℕ) (before : List ScriptLine) (ws : List (List ℕ)) (s : Statement) (key : Result Keyword ScriptCause) → (key >>= λ k. statement k ws) ≡ Ok s → may_wait (reading past part before) s ≡ Ok tt → (key >>= λ k. may_stand (reading past part before) k >>= λ _. statement k ws >>= λ t. may_wait (reading past part before) t >>= λ _. Ok t) ≡ Ok s
 key_meaning past part before ws s (Err e) h w = cc
 key_meaning past part before ws s (Ok k) h w = rw (stands past part before k, h, w)
 
-meaning_said : (past : List SessionPlan) (part : ℕ) (before : List ScriptLine) (ws : List (List ℕ)) (s : Statement) → all_allowed ws ≡ true → says ws ≡ Ok s → may_wait (reading past part before) s ≡ Ok tt → meaning (reading past part before) ws ≡ Ok s
+meaning_said : (past : List PlannedSession) (part : ℕ) (before : List ScriptLine) (ws : List (List ℕ)) (s : Statement) → all_allowed ws ≡ true → says ws ≡ Ok s → may_wait (reading past part before) s ≡ Ok tt → meaning (reading past part before) ws ≡ Ok s
 unfolding meaning
 meaning_said past part before ws s a h w = rw a (key_meaning past part before ws s (keyword_of (word ws 0)) h w)
 
@@ -100,7 +84,7 @@ says_nothing : (s : Statement) → says [] ≡ Ok s → ⊥
 unfolding keyword_of
 says_nothing s h = cc
 
-read_said : (past : List SessionPlan) (part : ℕ) (before : List ScriptLine) (ws : List (List ℕ)) (s : Statement) (rest : List (List (List ℕ))) (r : Result Draft ParseError) → list_all is_word ws ≡ true → says ws ≡ Ok s → may_wait (reading past part before) s ≡ Ok tt → Reads (added (reading past part before) s) rest r → Reads (reading past part before) (ws ∷ rest) r
+read_said : (past : List PlannedSession) (part : ℕ) (before : List ScriptLine) (ws : List (List ℕ)) (s : Statement) (rest : List (List (List ℕ))) (r : Result Draft ParseError) → list_all is_word ws ≡ true → says ws ≡ Ok s → may_wait (reading past part before) s ≡ Ok tt → Reads (added (reading past part before) s) rest r → Reads (reading past part before) (ws ∷ rest) r
 read_said past part before [] s rest r good h w k = absurd (says_nothing s h)
 read_said past part before (v ∷ vs) s rest r good h w k =
     read_line (reading past part before) (added (reading past part before) s) v vs rest r good
@@ -170,15 +154,15 @@ prints answers (WaitFor total) h =
       waits = a.1;
     }
 
-may_wait_enough : (past : List SessionPlan) (part : ℕ) (before : List ScriptLine) (s : Statement) → waits_enough (owed before) s ≡ true → may_wait (reading past part before) s ≡ Ok tt
+may_wait_enough : (past : List PlannedSession) (part : ℕ) (before : List ScriptLine) (s : Statement) → waits_enough (owed before) s ≡ true → may_wait (reading past part before) s ≡ Ok tt
 unfolding may_wait
 may_wait_enough past part before s h = rw h
 
-added_line : (past : List SessionPlan) (part : ℕ) (before : List ScriptLine) (line : ScriptLine) → added (reading past part before) (Do line) ≡ reading past part (before ++ line ∷ [])
+added_line : (past : List PlannedSession) (part : ℕ) (before : List ScriptLine) (line : ScriptLine) → added (reading past part before) (Do line) ≡ reading past part (before ++ line ∷ [])
 unfolding added
 added_line past part before line = refl
 
-read_lines : (past : List SessionPlan) (part : ℕ) (before ls : List ScriptLine) (rest : List (List (List ℕ))) (r : Result Draft ParseError) → fits_lines before ls ≡ true → Reads (reading past part (before ++ ls)) rest r → Reads (reading past part before) (map line_words ls ++ rest) r
+read_lines : (past : List PlannedSession) (part : ℕ) (before ls : List ScriptLine) (rest : List (List (List ℕ))) (r : Result Draft ParseError) → fits_lines before ls ≡ true → Reads (reading past part (before ++ ls)) rest r → Reads (reading past part before) (map line_words ls ++ rest) r
 read_lines past part before [] rest r h k = rw append-nil at k
 read_lines past part before (l ∷ ls) rest r h k =
     let both = and_true (fits_line (owed before) l) (fits_lines (before ++ l ∷ []) ls) h in
@@ -192,10 +176,10 @@ read_lines past part before (l ∷ ls) rest r h k =
 -- ---- sessions
 
 -- a session that was read to its end
-abbrev ended : List SessionPlan → SessionPlan → Draft
+abbrev ended : List PlannedSession → PlannedSession → Draft
 ended past s = record { past = past; current = Some (record { part = s.part; lines = s.lines; finish = Some s.finish }) }
 
-added_end : (past : List SessionPlan) (s : SessionPlan) → added (reading past s.part s.lines) (End s.finish) ≡ ended past s
+added_end : (past : List PlannedSession) (s : PlannedSession) → added (reading past s.part s.lines) (End s.finish) ≡ ended past s
 unfolding added
 added_end past s = refl
 
@@ -210,7 +194,7 @@ session_meaning : (d : Draft) (part : ℕ) → 1 ≤ part → part ≤ 1024 → 
 unfolding meaning keyword_of may_stand statement session_line has_count may_wait
 session_meaning d part l u = rw (allowed_words (codes "session" ∷ decimal part ∷ []) (session_good part), number-decimal 1 1024 part l u (omega arith))
 
-read_session : (d : Draft) (s : SessionPlan) (rest : List (List (List ℕ))) (r : Result Draft ParseError) → fits_plan s ≡ true → Reads (ended (plans d) s) rest r → Reads d (session_words s ++ rest) r
+read_session : (d : Draft) (s : PlannedSession) (rest : List (List (List ℕ))) (r : Result Draft ParseError) → fits_plan s ≡ true → Reads (ended (plans d) s) rest r → Reads d (session_words s ++ rest) r
 read_session d s rest r h k =
     let both = and_true (is_between 1 1024 s.part) (fits_lines [] s.lines) h in
     let part = between 1 1024 s.part both.0 in
@@ -227,18 +211,18 @@ read_session d s rest r h k =
 -- ---- the whole
 
 -- the draft after these sessions
-final : Draft → List SessionPlan → Draft
+final : Draft → List PlannedSession → Draft
 final d [] = d
 final d (s ∷ ss) = final (ended (plans d) s) ss
 
-read_sessions : (ss : List SessionPlan) (d : Draft) → can_be_said ss ≡ true → Reads d (script_words ss) (Ok (final d ss))
+read_sessions : (ss : List PlannedSession) (d : Draft) → can_be_said ss ≡ true → Reads d (script_words ss) (Ok (final d ss))
 unfolding final
 read_sessions [] d h = λ n. refl
 read_sessions (s ∷ ss) d h =
     let both = and_true (fits_plan s) (can_be_said ss) h in
     read_session d s (script_words ss) (Ok (final d (s ∷ ss))) both.0 (read_sessions ss (ended (plans d) s) both.1)
 
-final_plans : (ss : List SessionPlan) (d : Draft) → plans (final d ss) ≡ plans d ++ ss
+final_plans : (ss : List PlannedSession) (d : Draft) → plans (final d ss) ≡ plans d ++ ss
 unfolding final
 final_plans [] d = sym (append-nil (plans d))
 final_plans (s ∷ ss) d = final_plans ss (ended (plans d) s) ∙ append_assoc (plans d) (s ∷ []) ss
@@ -249,14 +233,14 @@ good_lines before (l ∷ ls) h =
     let both = and_true (fits_line (owed before) l) (fits_lines (before ++ l ∷ []) ls) h in
     ap (λ b. b && list_all (list_all is_word) (map line_words ls)) (prints (owed before) l both.0).good ∙ good_lines (before ++ l ∷ []) ls both.1
 
-good_session : (s : SessionPlan) → fits_plan s ≡ true → list_all (list_all is_word) (session_words s) ≡ true
+good_session : (s : PlannedSession) → fits_plan s ≡ true → list_all (list_all is_word) (session_words s) ≡ true
 good_session s h =
     let both = and_true (is_between 1 1024 s.part) (fits_lines [] s.lines) h in
     let last : list_all (list_all is_word) ((end_word s.finish ∷ []) ∷ []) ≡ true = ap (λ b. b && true) (end_is_words s.finish) in
     ap (λ b. b && list_all (list_all is_word) (map line_words s.lines ++ (end_word s.finish ∷ []) ∷ [])) (session_good s.part)
     ∙ all_append (list_all is_word) (map line_words s.lines) ((end_word s.finish ∷ []) ∷ []) (good_lines [] s.lines both.1) last
 
-good_script : (ss : List SessionPlan) → can_be_said ss ≡ true → list_all (list_all is_word) (script_words ss) ≡ true
+good_script : (ss : List PlannedSession) → can_be_said ss ≡ true → list_all (list_all is_word) (script_words ss) ≡ true
 good_script [] h = refl
 good_script (s ∷ ss) h =
     let both = and_true (fits_plan s) (can_be_said ss) h in
@@ -269,7 +253,7 @@ lines_of_texts (ws ∷ lss) h =
     lines_printed ws (flat_map line lss) both.0 ∙ ap (λ ls. joined ws ∷ ls) (lines_of_texts lss both.1)
 
 -- the printed text of a script that can be said means the script
-pub printed_again : (ss : List SessionPlan) → can_be_said ss ≡ true → script_of (script_text ss) ≡ Ok ss
+pub printed_again : (ss : List PlannedSession) → can_be_said ss ≡ true → script_of (script_text ss) ≡ Ok ss
 printed_again ss h =
     let read : after_lines 1 nothing_yet (lines (script_text ss)) ≡ Ok (final nothing_yet ss) =
     ap (λ t. after_lines 1 nothing_yet (lines t)) (sym (script_lines ss)) ∙ ap (after_lines 1 nothing_yet) (lines_of_texts (script_words ss) (good_script ss h)) ∙ read_sessions ss nothing_yet h 1 in

@@ -1,20 +1,15 @@
 -- What is printed is made of words.
-use Rattle.std.proofs.Common.{◌≡◌, ◌≢◌, ℕ, zero, suc, ◌+◌, ◌-◌, ◌/◌, ◌%◌, ◌<◌, ◌≤◌, Bool, true, false, cond, ◌&&◌, nat_le, nat_lt, List, [], ◌∷◌, length, get_or, refl, ap, ◌∙◌, arith, Option, Some, None, decimal, codes}
+use Rattle.std.proofs.Common.{◌≡◌, ◌≢◌, ℕ, zero, suc, ◌+◌, ◌/◌, ◌%◌, ◌<◌, ◌≤◌, Bool, true, false, cond, ◌&&◌, nat_le, nat_lt, List, [], ◌∷◌, length, get_or, refl, ap, ◌∙◌, arith, Option, Some, None, decimal, codes}
 use Rattle.std.specs.Prelude.{◌==◌}
 use Rattle.std.specs.List.{list_all}
 use Rattle.std.specs.Fmt.{digits, digits_onto, digit_glyph}
 use Rattle.host_record.specs.declared.request.Request.{Request}
-use Rattle.host_record.specs.declared.opcode.Opcode.{Opcode}
+use Rattle.host_record.specs.{Opcode, Finish, Drain, Abort, request_of, is_forced, opcode}
 use Rattle.host_record.specs.declared.opcode.Opcode.TheVariants as op
-use Rattle.host_record.specs.declared.finish.Finish.{Finish}
-use Rattle.host_record.specs.declared.finish.Finish.TheVariants.{Drain, Abort}
-use Rattle.host_record.specs.Request.{request_of}
-use Rattle.host_record.specs.Command.{opcode}
 use Rattle.hex.specs.Hex.{encode_lower, encode_with, lower_digits}
-use Rattle.host_text.specs.Words.{hex}
-use Rattle.script_model.specs.Words.{is_allowed}
-use Rattle.script_model.specs.Print.{group_words, named_words, raw_words, named_or_raw, send_words, is_named, end_word}
-use Rattle.script_model.proofs.Printed.{is_word, ne_false, weaker}
+use Rattle.host_text.specs.{hex}
+use Rattle.script_model.specs.{is_allowed, high_bits, force_words, group_words, named_words, raw_words, named_or_raw, send_words, is_named, end_word}
+use Rattle.script_model.proofs.Printed.{all_append, is_word, ne_false, weaker}
 use Rattle.script_model.proofs.HexText.{hex-encode_lower}
 use Rattle.script_model.proofs.PrintedValues.{and_true, le_from, le_true}
 
@@ -103,9 +98,12 @@ either_words false vs ws h k = k
 group_is_words : (r : Request) → list_all is_word (group_words r) ≡ true
 group_is_words r =
     let number = and_word (decimal r.group) [] (decimal_is_word r.group) refl in
-    either_words (r.command - r.command % 256 == 0x800) (codes "member" ∷ decimal r.group ∷ []) (cond (r.command - r.command % 256 == 0xc00) (codes "last" ∷ decimal r.group ∷ []) [])
+    either_words (high_bits r == 0x800) (codes "member" ∷ decimal r.group ∷ []) (cond (high_bits r == 0xc00) (codes "last" ∷ decimal r.group ∷ []) [])
     (and_word (codes "member") (decimal r.group ∷ []) refl number)
-    (either_words (r.command - r.command % 256 == 0xc00) (codes "last" ∷ decimal r.group ∷ []) [] (and_word (codes "last") (decimal r.group ∷ []) refl number) refl)
+    (either_words (high_bits r == 0xc00) (codes "last" ∷ decimal r.group ∷ []) [] (and_word (codes "last") (decimal r.group ∷ []) refl number) refl)
+
+force_is_words : (r : Request) → list_all is_word (force_words r) ≡ true
+force_is_words r = either_words (is_forced r) (codes "force" ∷ []) [] (and_word (codes "force") [] refl refl) refl
 
 -- a record, so that its list is found
 pub record AreWords (ws : List (List ℕ)) : Type 0 where
@@ -122,7 +120,9 @@ no_words = record { all = refl }
 
 named_are_words : (code : Opcode) (r : Request) → AreWords (named_words code r)
 named_are_words op.Read r = word_first (codes "read") refl (number_first r.reqid (number_first r.vmoid (number_first r.vmo_offset (number_first r.dev_offset (number_first r.length (record { all = group_is_words r }))))))
-named_are_words op.Write r = word_first (codes "write") refl (number_first r.reqid (number_first r.vmoid (number_first r.vmo_offset (number_first r.dev_offset (number_first r.length (record { all = group_is_words r }))))))
+named_are_words op.Write r =
+    word_first (codes "write") refl (number_first r.reqid (number_first r.vmoid (number_first r.vmo_offset (number_first r.dev_offset (number_first r.length
+    (record { all = all_append is_word (force_words r) (group_words r) (force_is_words r) (group_is_words r) }))))))
 named_are_words op.Flush r = word_first (codes "flush") refl (number_first r.reqid (record { all = group_is_words r }))
 named_are_words op.Trim r = word_first (codes "trim") refl (number_first r.reqid (number_first r.dev_offset (number_first r.length (record { all = group_is_words r }))))
 named_are_words op.Close r = word_first (codes "close") refl (number_first r.reqid (number_first r.vmoid (record { all = group_is_words r })))

@@ -5,27 +5,14 @@ use Rattle.std.specs.Int.{byte_at, bytes_low_first}
 use Rattle.byteorder.specs.Endian.{little_bytes}
 use Rattle.std.specs.List.{list_all}
 use Rattle.host_record.specs.declared.request.Request.{Request}
-use Rattle.host_record.specs.declared.opcode.Opcode.{Opcode}
 use Rattle.host_record.specs.declared.opcode.Opcode.TheVariants as op
-use Rattle.host_record.specs.declared.finish.Finish.{Finish}
-use Rattle.host_record.specs.declared.finish.Finish.TheVariants.{Drain, Abort}
-use Rattle.host_record.specs.Request.{request_bytes}
+use Rattle.host_record.specs.{Finish, Drain, Abort, request_bytes}
 use Rattle.hex.specs.Hex.{IsBytes, decode_sized}
 use Rattle.hex.specs.declared.error.FromHexError.{FromHexError}
 use Rattle.hex.proofs.HexLemmas.{decode_of-even, decode_pairs-ok, decode_sized-ok, decode_sized-twice}
-use Rattle.script_model.specs.declared.cause.ScriptCause.{ScriptCause}
-use Rattle.script_model.specs.declared.cause.ScriptCause.TheVariants.{BadNumber}
+use Rattle.script_model.specs.{ScriptCause, BadNumber, Statement, Begin, Do, End, Attach, Fill, Show, Send, WaitAll, WaitFor, word, has_count, force_bit, write_count, group_bits, group_number, waits_enough, statement, session_line, attach_line, fill_line, show_line, transfer_line, write_line, flush_line, trim_line, close_line, raw_line, wait_line, end_line, sends, opcode_number, number, in_range, decimal_value, hex_result, hex_bytes, is_between, is_record_bytes, fits_line, ◌>>=◌}
 use Rattle.script_model.specs.declared.keyword.Keyword.{Keyword}
 use Rattle.script_model.specs.declared.keyword.Keyword.TheVariants as key
-use Rattle.script_model.specs.declared.statement.Statement.{Statement}
-use Rattle.script_model.specs.declared.statement.Statement.TheVariants.{Begin, Do, End}
-use Rattle.script_model.specs.declared.script.ScriptLine.TheVariants.{Attach, Fill, Show, Send, WaitAll, WaitFor}
-use Rattle.script_model.specs.Arguments.{word, has_count, group_bits, group_number}
-use Rattle.script_model.specs.Draft.{waits_enough}
-use Rattle.script_model.specs.Lines.{statement, session_line, attach_line, fill_line, show_line, transfer_line, flush_line, trim_line, close_line, raw_line, wait_line, end_line, sends, opcode_number}
-use Rattle.script_model.specs.Numbers.{number, in_range, decimal_value, hex_result, hex_bytes}
-use Rattle.script_model.specs.Planned.{is_between, is_record, fits_line}
-use Rattle.script_model.specs.Steps.{◌>>=◌}
 use Rattle.script_model.proofs.Printed.{all_append}
 use Rattle.script_model.proofs.PrintedValues.{and_true, le_true}
 
@@ -94,7 +81,7 @@ low_first_small i zero m = refl
 low_first_small i (suc n) m = rw (le_true (suc (byte_at i m)) 256 (byte_at_small i m)) (low_first_small (suc i) n m)
 
 -- the bytes of any request are a record
-pub request_is_record : (r : Request) → is_record (request_bytes r) ≡ true
+pub request_is_record : (r : Request) → is_record_bytes (request_bytes r) ≡ true
 request_is_record r =
     let p : ℕ → Bool = λ b. nat_lt b 256 in
     let a = all_append p (little_bytes 4 r.command) (little_bytes 4 r.reqid) (low_first_small 0 4 r.command) (low_first_small 0 4 r.reqid) in
@@ -144,10 +131,14 @@ show_fits answers ws =
 sends_fits : (answers : ℕ) (r : Request) → Fits answers (Ok (sends r))
 sends_fits answers r = said_fits answers (sends r) (λ w. request_is_record r)
 
-transfer_fits : (answers : ℕ) (code : Opcode) (ws : List (List ℕ)) → Fits answers (transfer_line code ws)
+transfer_fits : (answers command n : ℕ) (ws : List (List ℕ)) → Fits answers (transfer_line command n ws)
 unfolding transfer_line
-transfer_fits answers code ws =
-    after answers (group_bits 6 ws) _ (λ bits i0. after answers (number 0 4294967295 (word ws 1)) _ (λ reqid i1. after answers (number 0 65535 (word ws 2)) _ (λ id i2. after answers (number 0 18446744073709551615 (word ws 3)) _ (λ offset i3. after answers (number 0 18446744073709551615 (word ws 4)) _ (λ block i4. after answers (number 0 4294967295 (word ws 5)) _ (λ len i5. after answers (group_number 6 ws) _ (λ group i6. sends_fits answers _)))))))
+transfer_fits answers command n ws =
+    after answers (group_bits n ws) _ (λ bits i0. after answers (number 0 4294967295 (word ws 1)) _ (λ reqid i1. after answers (number 0 65535 (word ws 2)) _ (λ id i2. after answers (number 0 18446744073709551615 (word ws 3)) _ (λ offset i3. after answers (number 0 18446744073709551615 (word ws 4)) _ (λ block i4. after answers (number 0 4294967295 (word ws 5)) _ (λ len i5. after answers (group_number n ws) _ (λ group i6. sends_fits answers _)))))))
+
+write_fits : (answers : ℕ) (ws : List (List ℕ)) → Fits answers (write_line ws)
+unfolding write_line
+write_fits answers ws = after answers (force_bit ws) _ (λ force i. transfer_fits answers (opcode_number op.Write + force) (write_count ws) ws)
 
 flush_fits : (answers : ℕ) (ws : List (List ℕ)) → Fits answers (flush_line ws)
 unfolding flush_line
@@ -192,8 +183,8 @@ statement_fits answers key.Session ws = session_fits answers ws
 statement_fits answers key.Attach ws = attach_fits answers ws
 statement_fits answers key.Fill ws = fill_fits answers ws
 statement_fits answers key.Show ws = show_fits answers ws
-statement_fits answers key.Read ws = transfer_fits answers op.Read ws
-statement_fits answers key.Write ws = transfer_fits answers op.Write ws
+statement_fits answers key.Read ws = transfer_fits answers (opcode_number op.Read) 6 ws
+statement_fits answers key.Write ws = write_fits answers ws
 statement_fits answers key.Flush ws = flush_fits answers ws
 statement_fits answers key.Trim ws = trim_fits answers ws
 statement_fits answers key.Close ws = close_fits answers ws

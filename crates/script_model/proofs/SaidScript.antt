@@ -3,26 +3,9 @@ use Rattle.std.proofs.Common.{◌≡◌, ℕ, zero, suc, ◌+◌, ◌≤◌, ◌
 use Rattle.std.specs.Prelude.{◌==◌, ◌||◌, ◌%◌, length}
 use Rattle.std.specs.List.{list_all}
 use Rattle.std.specs.Str.Lines.{lines}
-use Rattle.script_model.specs.declared.cause.ScriptCause.{ScriptCause}
-use Rattle.script_model.specs.declared.cause.ScriptCause.TheVariants.{BadByte, TooMany}
-use Rattle.script_model.specs.declared.parse_error.ParseError.{ParseError}
-use Rattle.script_model.specs.declared.parse_error.ParseError.TheVariants.{Bad}
-use Rattle.script_model.specs.declared.statement.Statement.{Statement}
-use Rattle.script_model.specs.declared.statement.Statement.TheVariants.{Begin, Do, End}
-use Rattle.script_model.specs.declared.script.ScriptLine.{ScriptLine}
-use Rattle.script_model.specs.declared.script.ScriptLine.TheVariants.{Attach, Fill, Show, Send, WaitAll, WaitFor}
-use Rattle.script_model.specs.Arguments.{word}
-use Rattle.script_model.specs.Draft.{Draft, OpenPlan, nothing_yet, plans, closed_plan, closed_plans, added, with_line, with_finish, may_stand, may_wait, owed_so_far, waits_enough, meaning}
-use Rattle.host_record.specs.declared.finish.Finish.{Finish}
-use Rattle.script_model.specs.Generate.{next, drawn, request_from, after_request, after_requests, request_line, request_lines, waits, session_from, sessions_from, generated}
-use Rattle.script_model.specs.Keyword.{keyword_of}
-use Rattle.script_model.specs.Lines.{statement}
-use Rattle.script_model.specs.Owed.{owed}
-use Rattle.script_model.specs.Planned.{is_between, fits_line, fits_lines, fits_plan, can_be_said}
-use Rattle.script_model.specs.Plans.{SessionPlan}
-use Rattle.script_model.specs.Script.{after_statement, after_line, after_lines, plans_after, script_of}
-use Rattle.script_model.specs.Steps.{◌>>=◌, holds}
-use Rattle.script_model.specs.Words.{words, all_allowed}
+use Rattle.script_model.specs.{ScriptCause, BadByte, TooMany, ParseError, Bad, Statement, Begin, Do, End, ScriptLine, Attach, Fill, Show, Send, WaitAll, WaitFor, word, OpenPlan, nothing_yet, plans, closed_plan, closed_plans, added, with_line, with_finish, may_stand, may_wait, owed_so_far, waits_enough, meaning, next, drawn, request_from, after_request, after_requests, request_line, request_lines, waits, session_from, sessions_from, generated, keyword_of, statement, owed, is_between, fits_line, fits_lines, fits_plan, can_be_said, PlannedSession, after_statement, after_line, after_lines, plans_after, script_of, ◌>>=◌, holds, words, all_allowed}
+use Rattle.script_model.specs.Draft.{Draft}
+use Rattle.host_record.specs.{Finish}
 use Rattle.script_model.proofs.Printed.{all_append}
 use Rattle.script_model.proofs.PrintedValues.{and_true, le_from, le_true}
 use Rattle.script_model.proofs.Said.{and_both, fits_statement, request_is_record, statement_fits}
@@ -115,7 +98,7 @@ lines_after : (n : ℕ) (d e : Draft) (ls : List (List ℕ)) → CanBeSaid d →
 lines_after n d e [] good h = let same : d ≡ e = cc in subst CanBeSaid same good
 lines_after n d e (l ∷ ls) good h = first_after n ls e (after_line d (words l)) (λ x. line_after d x (words l) good) (λ x. lines_after (n + 1) x e ls) h
 
-from_draft : (r : Result Draft ParseError) (ss : List SessionPlan) → plans_after r ≡ Ok ss → ((d : Draft) → r ≡ Ok d → CanBeSaid d) → can_be_said ss ≡ true
+from_draft : (r : Result Draft ParseError) (ss : List PlannedSession) → plans_after r ≡ Ok ss → ((d : Draft) → r ≡ Ok d → CanBeSaid d) → can_be_said ss ≡ true
 from_draft (Ok d) ss h good = let same : plans d ≡ ss = cc in subst (λ xs. can_be_said xs ≡ true) same (plans_fit d (good d refl))
 from_draft (Err e) ss h good = cc
 
@@ -123,7 +106,7 @@ nothing_fits : CanBeSaid nothing_yet
 unfolding fits_open
 nothing_fits = record { past = refl; current = refl }
 
-pub script_fits : (text : List ℕ) (ss : List SessionPlan) → script_of text ≡ Ok ss → can_be_said ss ≡ true
+pub script_fits : (text : List ℕ) (ss : List PlannedSession) → script_of text ≡ Ok ss → can_be_said ss ≡ true
 script_fits text ss h = from_draft (after_lines 1 nothing_yet (lines text)) ss h (λ d. lines_after 1 nothing_yet d (lines text) nothing_fits)
 
 -- ---- a generated script

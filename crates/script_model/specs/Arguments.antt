@@ -1,5 +1,6 @@
 -- The words of a line that stand for numbers, and the two that put a record into its group.
-use Rattle.std.specs.Prelude.{ℕ, ◌+◌, Bool, ◌==◌, if◌then◌else◌, List, [], length, get_or, codes, Result, Ok, Err}
+use Rattle.std.specs.Prelude.{ℕ, ◌+◌, Bool, ◌==◌, ◌||◌, if◌then◌else◌, List, [], length, get_or}
+use Rattle.std.specs.Prelude.{codes, Result, Ok, Err}
 use Rattle.std.specs.Str.{bytes_eq}
 use Rattle.script_model.specs.declared.cause.ScriptCause.{ScriptCause}
 use Rattle.script_model.specs.declared.cause.ScriptCause.TheVariants.{WrongCount}
@@ -33,7 +34,8 @@ count_at ws i = number 1 4096 (word ws i)
 
 -- ---- groups
 
--- Of a line of n words, what the two further words that put its record into a group add to the command: nothing without them.
+-- Of a line of n words, what the two further words that put its record into a group add to the
+-- command: nothing without them.
 unfoldable pub group_bits : ℕ → List (List ℕ) → Result ℕ ScriptCause
 group_bits n ws =
     if length ws == n then Ok 0
@@ -46,3 +48,17 @@ group_bits n ws =
 -- the group's number, 0 without a group
 unfoldable pub group_number : ℕ → List (List ℕ) → Result ℕ ScriptCause
 group_number n ws = if length ws == n then Ok 0 else number 0 7 (word ws (n + 1))
+
+-- ---- forced writes
+
+-- the words of a write before those of its group: seven where it is forced, as a line of seven or
+-- nine words is
+abbrev pub write_count : List (List ℕ) → ℕ
+write_count ws = if length ws == 7 || length ws == 9 then 7 else 6
+
+-- what the word `force` adds to the command
+unfoldable pub force_bit : List (List ℕ) → Result ℕ ScriptCause
+force_bit ws =
+    if write_count ws == 7 then
+    (if is_word ws 6 (codes "force") then Ok 0x1000 else Err WrongCount)
+    else Ok 0

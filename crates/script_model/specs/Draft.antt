@@ -1,9 +1,11 @@
 -- A script as far as it was read, and what a line may say there.
-use Rattle.std.specs.Prelude.{ℕ, Bool, true, false, nat_le, List, [], ◌∷◌, ◌++◌, Option, Some, None, is_none, Result, Ok, Err, if◌then◌else◌}
+use Rattle.std.specs.Prelude.{ℕ, Bool, true, false, nat_le, List, [], ◌∷◌, ◌++◌, Option, Some, None}
+use Rattle.std.specs.Prelude.{is_none, Result, Ok, Err, if◌then◌else◌}
 use Rattle.host_record.specs.declared.finish.Finish.{Finish}
 use Rattle.host_record.specs.declared.finish.Finish.TheVariants.{Drain}
 use Rattle.script_model.specs.declared.cause.ScriptCause.{ScriptCause}
-use Rattle.script_model.specs.declared.cause.ScriptCause.TheVariants.{BadByte, NoSession, AfterEnd, TooMany}
+use Rattle.script_model.specs.declared.cause.ScriptCause.TheVariants.{BadByte, NoSession, AfterEnd}
+use Rattle.script_model.specs.declared.cause.ScriptCause.TheVariants.{TooMany}
 use Rattle.script_model.specs.declared.keyword.Keyword.{Keyword}
 use Rattle.script_model.specs.declared.keyword.Keyword.TheVariants.{Session}
 use Rattle.script_model.specs.declared.statement.Statement.{Statement}
@@ -15,7 +17,7 @@ use Rattle.script_model.specs.Arguments.{word}
 use Rattle.script_model.specs.Keyword.{keyword_of}
 use Rattle.script_model.specs.Lines.{statement}
 use Rattle.script_model.specs.Owed.{owed}
-use Rattle.script_model.specs.Plans.{SessionPlan}
+use Rattle.script_model.specs.Plans.{PlannedSession}
 use Rattle.script_model.specs.Words.{all_allowed}
 
 -- the session that is being read; it has a finish once its end was read
@@ -26,7 +28,7 @@ pub record OpenPlan : Type 0 where
 
 -- the sessions before, and the one that is being read
 pub record Draft : Type 0 where
-  pub past : List SessionPlan
+  pub past : List PlannedSession
   pub current : Option OpenPlan
 
 abbrev pub nothing_yet : Draft
@@ -39,15 +41,15 @@ abbrev pub finish_or_drain : Option Finish → Finish
 finish_or_drain None = Drain
 finish_or_drain (Some finish) = finish
 
-abbrev pub closed_plan : OpenPlan → SessionPlan
+abbrev pub closed_plan : OpenPlan → PlannedSession
 closed_plan s = record { part = s.part; lines = s.lines; finish = finish_or_drain s.finish }
 
-abbrev pub closed_plans : Option OpenPlan → List SessionPlan
+abbrev pub closed_plans : Option OpenPlan → List PlannedSession
 closed_plans None = []
 closed_plans (Some s) = closed_plan s ∷ []
 
 -- all sessions, the one that is being read too
-abbrev pub plans : Draft → List SessionPlan
+abbrev pub plans : Draft → List PlannedSession
 plans d = d.past ++ closed_plans d.current
 
 abbrev pub with_line : Option OpenPlan → ScriptLine → Option OpenPlan
@@ -59,7 +61,8 @@ with_finish None finish = None
 with_finish (Some s) finish = Some (record s { finish = Some finish })
 
 unfoldable pub added : Draft → Statement → Draft
-added d (Begin part) = record { past = plans d; current = Some (record { part = part; lines = []; finish = None }) }
+added d (Begin part) =
+    record { past = plans d; current = Some (record { part = part; lines = []; finish = None }) }
 added d (Do line) = record d { current = with_line d.current line }
 added d (End finish) = record d { current = with_finish d.current finish }
 

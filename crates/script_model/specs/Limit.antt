@@ -1,5 +1,6 @@
 -- The limits of a script.
-use Rattle.std.specs.Prelude.{ℕ, ◌*◌, Bool, true, false, ◌&&◌, nat_lt, nat_le, if◌then◌else◌, List, length, Option, Some, None}
+use Rattle.std.specs.Prelude.{ℕ, ◌*◌, Bool, true, false, ◌&&◌, nat_lt, nat_le, if◌then◌else◌, List}
+use Rattle.std.specs.Prelude.{length, Option, Some, None}
 use Rattle.std.specs.List.{list_any, count_by, sum_by}
 use Rattle.host_record.specs.Request.{request_of}
 use Rattle.host_record.specs.Command.{opcode, names_blocks}
@@ -8,7 +9,7 @@ use Rattle.script_model.specs.declared.limit.Limit.{Limit}
 use Rattle.script_model.specs.declared.limit.Limit.TheVariants.{Sessions, Records, Moved}
 use Rattle.script_model.specs.declared.script.ScriptLine.{ScriptLine}
 use Rattle.script_model.specs.declared.script.ScriptLine.TheVariants.{Fill, Show, Send}
-use Rattle.script_model.specs.Plans.{SessionPlan}
+use Rattle.script_model.specs.Plans.{PlannedSession}
 
 abbrev pub is_record : ScriptLine → Bool
 is_record (Send bytes) = true
@@ -32,7 +33,7 @@ unfoldable pub has_many_records : List ScriptLine → Bool
 has_many_records lines = nat_lt 65535 (count_by is_record lines)
 
 -- the first limit that is passed, for blocks of that size
-unfoldable pub limit_of : ℕ → List SessionPlan → Option Limit
+unfoldable pub limit_of : ℕ → List PlannedSession → Option Limit
 limit_of size plans =
     if nat_lt 16 (length plans) then Some Sessions
     else if list_any (λ s. has_many_records s.lines) plans then Some Records

@@ -12,7 +12,8 @@ use Rattle.script_model.specs.declared.keyword.Keyword.TheVariants as key
 use Rattle.script_model.specs.declared.statement.Statement.{Statement}
 use Rattle.script_model.specs.declared.statement.Statement.TheVariants.{Begin, Do, End}
 use Rattle.script_model.specs.declared.script.ScriptLine.TheVariants as line
-use Rattle.script_model.specs.Arguments.{word, has_count, u16_at, u32_at, u64_at, count_at, group_bits, group_number}
+use Rattle.script_model.specs.Arguments.{word, has_count, u16_at, u32_at, u64_at, count_at}
+use Rattle.script_model.specs.Arguments.{force_bit, group_bits, group_number, write_count}
 use Rattle.script_model.specs.Numbers.{number, hex_bytes}
 use Rattle.script_model.specs.Steps.{◌>>=◌}
 
@@ -57,16 +58,23 @@ opcode_number op.Close = 5
 abbrev pub sends : Request → Statement
 sends r = Do (line.Send (request_bytes r))
 
-unfoldable pub transfer_line : Opcode → List (List ℕ) → Result Statement ScriptCause
-transfer_line opcode ws = do
-  bits ← group_bits 6 ws
+-- a read or write, of so many words before those of its group; the command begins with this number
+unfoldable pub transfer_line : ℕ → ℕ → List (List ℕ) → Result Statement ScriptCause
+transfer_line command n ws = do
+  bits ← group_bits n ws
   reqid ← u32_at ws 1
   id ← u16_at ws 2
   offset ← u64_at ws 3
   block ← u64_at ws 4
   len ← u32_at ws 5
-  group ← group_number 6 ws
-  Ok (sends (record { command = opcode_number opcode + bits; reqid = reqid; group = group; vmoid = id; length = len; vmo_offset = offset; dev_offset = block }))
+  group ← group_number n ws
+  Ok (sends (record { command = command + bits; reqid = reqid; group = group; vmoid = id; length = len; vmo_offset = offset; dev_offset = block }))
+
+-- a write may be forced
+unfoldable pub write_line : List (List ℕ) → Result Statement ScriptCause
+write_line ws = do
+  force ← force_bit ws
+  transfer_line (opcode_number op.Write + force) (write_count ws) ws
 
 unfoldable pub flush_line : List (List ℕ) → Result Statement ScriptCause
 flush_line ws = do
@@ -116,8 +124,8 @@ statement key.Session ws = session_line ws
 statement key.Attach ws = attach_line ws
 statement key.Fill ws = fill_line ws
 statement key.Show ws = show_line ws
-statement key.Read ws = transfer_line op.Read ws
-statement key.Write ws = transfer_line op.Write ws
+statement key.Read ws = transfer_line (opcode_number op.Read) 6 ws
+statement key.Write ws = write_line ws
 statement key.Flush ws = flush_line ws
 statement key.Trim ws = trim_line ws
 statement key.Close ws = close_line ws

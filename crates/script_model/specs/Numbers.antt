@@ -1,5 +1,6 @@
 -- What single words mean.
-use Rattle.std.specs.Prelude.{ℕ, ◌+◌, ◌-◌, ◌*◌, Bool, ◌&&◌, nat_le, if◌then◌else◌, List, [], ◌∷◌, length, Option, Some, None, Result, Ok, Err}
+use Rattle.std.specs.Prelude.{ℕ, ◌+◌, ◌-◌, ◌*◌, Bool, ◌&&◌, nat_le, if◌then◌else◌, List, [], ◌∷◌}
+use Rattle.std.specs.Prelude.{length, Option, Some, None, Result, Ok, Err}
 use Rattle.hex.specs.Hex.{decode_sized}
 use Rattle.hex.specs.declared.error.FromHexError.{FromHexError}
 use Rattle.script_model.specs.declared.cause.ScriptCause.{ScriptCause}
@@ -15,7 +16,8 @@ digits_after n (b ∷ bs) = if is_digit b then digits_after (n * 10 + (b - 48)) 
 
 -- the value of 1 to 20 decimal digits
 unfoldable pub decimal_value : List ℕ → Option ℕ
-decimal_value word = if nat_le 1 (length word) && nat_le (length word) 20 then digits_after 0 word else None
+decimal_value word =
+    if nat_le 1 (length word) && nat_le (length word) 20 then digits_after 0 word else None
 
 -- a value from low to high, both among them
 abbrev pub in_range : ℕ → ℕ → Option ℕ → Result ℕ ScriptCause

@@ -6,13 +6,13 @@ use Rattle.script_model.specs.declared.script.SessionScript.{SessionScript}
 use Rattle.script_model.specs.declared.script.Script.{Script}
 
 -- what one client is to do
-pub record SessionPlan : Type 0 where
+pub record PlannedSession : Type 0 where
   pub part : ℕ
   pub lines : List ScriptLine
   pub finish : Finish
 
-abbrev pub plan_of : SessionScript → SessionPlan
+abbrev pub plan_of : SessionScript → PlannedSession
 plan_of s = record { part = s.part; lines = s.lines.items; finish = s.finish }
 
-abbrev pub plans_of : Script → List SessionPlan
+abbrev pub plans_of : Script → List PlannedSession
 plans_of script = map plan_of script.sessions.items

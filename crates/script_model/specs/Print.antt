@@ -1,5 +1,6 @@
 -- The text of a script.
-use Rattle.std.specs.Prelude.{ℕ, ◌-◌, ◌%◌, Bool, false, ◌==◌, if◌then◌else◌, List, [], ◌∷◌, ◌++◌, flat_map, codes, decimal, Option, Some, None, Result, Ok}
+use Rattle.std.specs.Prelude.{ℕ, Bool, false, ◌==◌, if◌then◌else◌, List, [], ◌∷◌, ◌++◌, flat_map}
+use Rattle.std.specs.Prelude.{codes, decimal, Option, Some, None, Result, Ok}
 use Rattle.std.specs.Str.{bytes_eq}
 use Rattle.host_record.specs.declared.request.Request.{Request}
 use Rattle.host_record.specs.declared.opcode.Opcode.{Opcode}
@@ -7,35 +8,45 @@ use Rattle.host_record.specs.declared.opcode.Opcode.TheVariants as op
 use Rattle.host_record.specs.declared.finish.Finish.{Finish}
 use Rattle.host_record.specs.declared.finish.Finish.TheVariants.{Drain, Abort}
 use Rattle.host_record.specs.Request.{request_of}
-use Rattle.host_record.specs.Command.{opcode}
+use Rattle.host_record.specs.Command.{is_forced, opcode}
 use Rattle.host_text.specs.Words.{hex_byte, hex, line}
 use Rattle.script_model.specs.declared.cause.ScriptCause.{ScriptCause}
 use Rattle.script_model.specs.declared.statement.Statement.{Statement}
 use Rattle.script_model.specs.declared.statement.Statement.TheVariants.{Do}
 use Rattle.script_model.specs.declared.script.ScriptLine.{ScriptLine}
-use Rattle.script_model.specs.declared.script.ScriptLine.TheVariants.{Attach, Fill, Show, Send, WaitAll, WaitFor}
-use Rattle.script_model.specs.Plans.{SessionPlan}
+use Rattle.script_model.specs.declared.script.ScriptLine.TheVariants.{Attach, Fill, Show, Send}
+use Rattle.script_model.specs.declared.script.ScriptLine.TheVariants.{WaitAll, WaitFor}
+use Rattle.script_model.specs.Plans.{PlannedSession}
 use Rattle.script_model.specs.Steps.{◌>>=◌}
 use Rattle.script_model.specs.Arguments.{word}
 use Rattle.script_model.specs.Keyword.{keyword_of}
 use Rattle.script_model.specs.Lines.{statement}
+use Rattle.script_model.specs.Named.{high_bits}
 
 -- ---- records
 
 -- the two words that put a record into its group
 abbrev pub group_words : Request → List (List ℕ)
 group_words r =
-    let bits = r.command - r.command % 256 in
-    if bits == 0x800 then codes "member" ∷ decimal r.group ∷ []
-    else if bits == 0xc00 then codes "last" ∷ decimal r.group ∷ []
+    if high_bits r == 0x800 then codes "member" ∷ decimal r.group ∷ []
+    else if high_bits r == 0xc00 then codes "last" ∷ decimal r.group ∷ []
     else []
+
+-- the word that forces a write
+abbrev pub force_words : Request → List (List ℕ)
+force_words r = if is_forced r then codes "force" ∷ [] else []
 
 -- the line that names what the record asks for
 abbrev pub named_words : Opcode → Request → List (List ℕ)
-named_words op.Read r = codes "read" ∷ decimal r.reqid ∷ decimal r.vmoid ∷ decimal r.vmo_offset ∷ decimal r.dev_offset ∷ decimal r.length ∷ group_words r
-named_words op.Write r = codes "write" ∷ decimal r.reqid ∷ decimal r.vmoid ∷ decimal r.vmo_offset ∷ decimal r.dev_offset ∷ decimal r.length ∷ group_words r
+named_words op.Read r =
+    codes "read" ∷ decimal r.reqid ∷ decimal r.vmoid ∷ decimal r.vmo_offset ∷ decimal r.dev_offset
+    ∷ decimal r.length ∷ group_words r
+named_words op.Write r =
+    codes "write" ∷ decimal r.reqid ∷ decimal r.vmoid ∷ decimal r.vmo_offset ∷ decimal r.dev_offset
+    ∷ decimal r.length ∷ (force_words r ++ group_words r)
 named_words op.Flush r = codes "flush" ∷ decimal r.reqid ∷ group_words r
-named_words op.Trim r = codes "trim" ∷ decimal r.reqid ∷ decimal r.dev_offset ∷ decimal r.length ∷ group_words r
+named_words op.Trim r =
+    codes "trim" ∷ decimal r.reqid ∷ decimal r.dev_offset ∷ decimal r.length ∷ group_words r
 named_words op.Close r = codes "close" ∷ decimal r.reqid ∷ decimal r.vmoid ∷ group_words r
 
 -- whether a line sends just these bytes
@@ -56,7 +67,8 @@ is_named code bytes = is_sending bytes (says (named_words code (request_of bytes
 -- the named line where it gives the same bytes, else the bytes
 abbrev pub named_or_raw : List ℕ → Option Opcode → List (List ℕ)
 named_or_raw bytes None = raw_words bytes
-named_or_raw bytes (Some code) = if is_named code bytes then named_words code (request_of bytes) else raw_words bytes
+named_or_raw bytes (Some code) =
+    if is_named code bytes then named_words code (request_of bytes) else raw_words bytes
 
 unfoldable pub send_words : List ℕ → List (List ℕ)
 send_words bytes = named_or_raw bytes (opcode (request_of bytes))
@@ -65,7 +77,8 @@ send_words bytes = named_or_raw bytes (opcode (request_of bytes))
 
 abbrev pub line_words : ScriptLine → List (List ℕ)
 line_words (Attach pages) = codes "attach" ∷ decimal pages ∷ []
-line_words (Fill id block count byte) = codes "fill" ∷ decimal id ∷ decimal block ∷ decimal count ∷ hex_byte byte ∷ []
+line_words (Fill id block count byte) =
+    codes "fill" ∷ decimal id ∷ decimal block ∷ decimal count ∷ hex_byte byte ∷ []
 line_words (Show id block count) = codes "show" ∷ decimal id ∷ decimal block ∷ decimal count ∷ []
 line_words (Send bytes) = send_words bytes
 line_words WaitAll = codes "wait" ∷ []
@@ -79,8 +92,10 @@ abbrev pub line_text : ScriptLine → List ℕ
 line_text l = line (line_words l)
 
 -- a line that begins the session, one for each thing to do, and one that ends it
-abbrev pub session_text : SessionPlan → List ℕ
-session_text s = line (codes "session" ∷ decimal s.part ∷ []) ++ flat_map line_text s.lines ++ line (end_word s.finish ∷ [])
+abbrev pub session_script_text : PlannedSession → List ℕ
+session_script_text s =
+    line (codes "session" ∷ decimal s.part ∷ []) ++ flat_map line_text s.lines
+    ++ line (end_word s.finish ∷ [])
 
-abbrev pub script_text : List SessionPlan → List ℕ
-script_text plans = flat_map session_text plans
+abbrev pub script_text : List PlannedSession → List ℕ
+script_text plans = flat_map session_script_text plans

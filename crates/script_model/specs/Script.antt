@@ -1,5 +1,6 @@
 -- What a text means: a script, or the first bad line with its cause.
-use Rattle.std.specs.Prelude.{◌≡◌, ℕ, ◌+◌, ◌==◌, List, [], ◌∷◌, length, if◌then◌else◌, Result, Ok, Err}
+use Rattle.std.specs.Prelude.{◌≡◌, ℕ, ◌+◌, ◌==◌, List, [], ◌∷◌, length, if◌then◌else◌, Result, Ok}
+use Rattle.std.specs.Prelude.{Err}
 use Rattle.std.specs.Str.Lines.{lines}
 use Rattle.script_model.specs.declared.cause.ScriptCause.{ScriptCause}
 use Rattle.script_model.specs.declared.parse_error.ParseError.{ParseError}
@@ -7,7 +8,7 @@ use Rattle.script_model.specs.declared.parse_error.ParseError.TheVariants as err
 use Rattle.script_model.specs.declared.statement.Statement.{Statement}
 use Rattle.script_model.specs.declared.script.Script.{Script}
 use Rattle.script_model.specs.Draft.{Draft, nothing_yet, added, plans, meaning}
-use Rattle.script_model.specs.Plans.{SessionPlan, plans_of}
+use Rattle.script_model.specs.Plans.{PlannedSession, plans_of}
 use Rattle.script_model.specs.Words.{words}
 
 -- the draft after a line, which is as before where the line has no word
@@ -26,27 +27,27 @@ after_lines n d (line ∷ lines) = elim (after_line d (words line)) [
   | Err cause ↦ Err (error.Bad n cause)
 ]
 
-abbrev pub plans_after : Result Draft ParseError → Result (List SessionPlan) ParseError
+abbrev pub plans_after : Result Draft ParseError → Result (List PlannedSession) ParseError
 plans_after (Ok d) = Ok (plans d)
 plans_after (Err e) = Err e
 
 -- what the text means
-abbrev pub script_of : List ℕ → Result (List SessionPlan) ParseError
+abbrev pub script_of : List ℕ → Result (List PlannedSession) ParseError
 script_of text = plans_after (after_lines 1 nothing_yet (lines text))
 
 -- ---- what the code gives
 
 -- what `parse` gives for a text that means this, unless memory runs out
-abbrev pub Fails : ParseError → Result (List SessionPlan) ParseError → Type 0
+abbrev pub Fails : ParseError → Result (List PlannedSession) ParseError → Type 0
 Fails error.Oom meant = Unit {0}
 Fails (error.Bad line cause) meant = meant ≡ Err (error.Bad line cause)
 
-abbrev pub Parses : Result Script ParseError → Result (List SessionPlan) ParseError → Type 0
+abbrev pub Parses : Result Script ParseError → Result (List PlannedSession) ParseError → Type 0
 Parses (Ok script) meant = meant ≡ Ok (plans_of script)
 Parses (Err e) meant = Fails e meant
 
 -- what reading line n gives, where it means this
-abbrev pub Reads : ℕ → Result Draft ScriptCause → Draft → Result (Unit {0}) ParseError → Type 0
-Reads n meant new (Ok u) = meant ≡ Ok new
-Reads n meant new (Err error.Oom) = Unit {0}
-Reads n meant new (Err (error.Bad line cause)) = (line ≡ n) × (meant ≡ Err cause)
+abbrev pub ReadsLine : ℕ → Result Draft ScriptCause → Draft → Result (Unit {0}) ParseError → Type 0
+ReadsLine n meant new (Ok u) = meant ≡ Ok new
+ReadsLine n meant new (Err error.Oom) = Unit {0}
+ReadsLine n meant new (Err (error.Bad line cause)) = (line ≡ n) × (meant ≡ Err cause)

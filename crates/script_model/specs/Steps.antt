@@ -4,7 +4,8 @@ use Rattle.script_model.specs.declared.cause.ScriptCause.{ScriptCause}
 
 -- the second step, where the first gave a value
 infixl 10 ◌>>=◌
-abbrev pub ◌>>=◌ : {A B : Type 0} → Result A ScriptCause → (A → Result B ScriptCause) → Result B ScriptCause
+abbrev pub ◌>>=◌ : {A B : Type 0} → Result A ScriptCause → (A → Result B ScriptCause)
+    → Result B ScriptCause
 Ok x >>= f = f x
 Err e >>= f = Err e
 

@@ -1,4 +1,5 @@
-//! The plain data of a script, its language, printed form, limits and generator as definitions, and what follows from them.
+//! The plain data of a script, its language, printed form, limits and generator as definitions, and
+//! what follows from them.
 #![tactic(auto)]
 
 mod cause;

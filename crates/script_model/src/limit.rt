@@ -1,7 +1,8 @@
 // The limits of a script.
 ghost use Rattle.std.specs.Prelude.{◌≡◌, ◌≤◌, ◌<◌, ◌*◌, length};
 ghost use Rattle.std.specs.List.{sum_by, list_any};
-ghost use Rattle.script_model.specs.Limit.{is_record, moved_by, moved_by_request, moved_by_lines, has_many_records, limit_of};
+ghost use Rattle.script_model.specs.Limit.{is_record, moved_by, moved_by_request, moved_by_lines};
+ghost use Rattle.script_model.specs.Limit.{has_many_records, limit_of};
 ghost use Rattle.script_model.specs.Plans.{plans_of};
 
 use crate::{Script, ScriptLine, SessionScript};

@@ -8,49 +8,23 @@ use Rattle.std.proofs.lemmas.List.Elements.{filter-append}
 use Rattle.std.proofs.lemmas.List.FromFn.{length-map-range_with_len}
 use Rattle.std.proofs.lemmas.List.Sums.{sum_by-cons}
 use Rattle.host_block.specs.declared.range.Range.{Range}
+use Rattle.host_block.specs.{Op}
 use Rattle.host_block.specs.declared.op.Op.TheVariants as op
-use Rattle.host_record.specs.Command.{opcode, is_transfer, names_blocks}
-use Rattle.host_record.specs.Request.{request_of}
-use Rattle.host_record.specs.declared.finish.Finish.{Finish}
-use Rattle.host_record.specs.declared.finish.Finish.TheVariants.{Drain, Abort}
-use Rattle.host_record.specs.declared.opcode.Opcode.{Opcode}
-use Rattle.host_record.specs.declared.opcode.Opcode.TheVariants.{Read, Write, Flush, Trim, Close}
+use Rattle.host_record.specs.{opcode, is_forced, is_transfer, names_blocks, request_of, Finish, Drain, Abort, Opcode, Read, Write, Flush, Trim, Close}
 use Rattle.host_record.specs.declared.request.Request.{Request}
 use Rattle.host_record.specs.declared.status.Status.{Status}
 use Rattle.host_record.specs.declared.status.Status.TheVariants as status
-use Rattle.host_model.specs.declared.event.Event.{Event}
-use Rattle.host_model.specs.declared.event.Event.TheVariants.{Received, Drained, Aborted}
-use Rattle.host_model.specs.declared.memory.MemEvent.{MemEvent}
-use Rattle.host_model.specs.declared.memory.MemEvent.TheVariants.{Lift, Land, Pin, Done}
+use Rattle.host_model.specs.{Event, Received, Drained, Aborted, MemEvent, Lift, Land, Pin, Done, Step, Accepted, Refused, Ask, asked, asked_by, asked_in, carries_out, ended, flush_after, flush_ask, for_each_block, is_step_for, outcome_of, same_op, steps_of, IsLawfulSession, IsByFirstCheck, below, count, is_nil, request_at, requests, sent, sent_bytes, entries_for, entries_of, entries_owed, land_for, lift_at, lift_for, names_taken, spare, writes_of, row_at, checks, judged}
 use Rattle.host_model.specs.declared.memory.MemEvent.TheVariants as mem
-use Rattle.host_model.specs.declared.step.Step.{Step}
 use Rattle.host_model.specs.declared.verdict.Verdict.{Verdict}
-use Rattle.host_model.specs.declared.verdict.Verdict.TheVariants.{Accepted, Refused}
-use Rattle.host_model.specs.Carrying.{Ask, asked, asked_by, asked_in, carries_out, ended, is_step_for, outcome_of, steps_of}
-use Rattle.host_model.specs.LawfulSession.{IsLawfulSession}
-use Rattle.host_model.specs.Laws.{IsByFirstCheck}
-use Rattle.host_model.specs.Lists.{below, count, is_nil}
-use Rattle.host_model.specs.Log.{request_at, requests, sent, sent_bytes}
-use Rattle.host_model.specs.RecordEntries.{entries_for, entries_of, entries_owed, land_for, lift_at, lift_for, names_taken, spare}
 use Rattle.host_model.specs.Session.{Session}
-use Rattle.host_model.specs.Taking.{row_at}
-use Rattle.host_model.specs.Verdict.{checks, judged}
 use Rattle.host_model.proofs.Checks.{first_check_decides}
 use Rattle.host_model.proofs.Inside.{row_verdict}
 use Rattle.host_model.proofs.ListTests.{both}
-use Rattle.host_report.specs.declared.closing.Closing.{Closing}
-use Rattle.host_report.specs.declared.closing.Closing.TheVariants.{Good, Fault, Cut, NoMemory}
-use Rattle.host_report.specs.declared.report.Report.{Report}
-use Rattle.host_report.specs.declared.session.SessionReport.{SessionReport}
-use Rattle.host_report.specs.Lawful.{closing_steps, is_of_sessions, session_of}
-use Rattle.host_report.specs.Played.{IsPlayedBy, are_calls_for, calls_asked, calls_in, is_call_for, is_end_of}
+use Rattle.host_report.specs.{Closing, Good, Fault, Cut, NoMemory, Report, SessionReport, closing_steps, is_of_sessions, session_of, IsPlayedBy, are_calls_for, calls_asked, calls_in, is_call_for, is_end_of}
 use Rattle.host_report.specs.Played as played
-use Rattle.script_model.specs.declared.script.ScriptLine.{ScriptLine}
-use Rattle.script_model.specs.declared.script.ScriptLine.TheVariants.{Attach, Fill, Show, Send, WaitAll, WaitFor}
-use Rattle.script_model.specs.Plans.{SessionPlan}
-use Rattle.script_played.specs.Laws.{HistoriesFit}
-use Rattle.script_played.specs.Played.{ask_of, asked_of}
-use Rattle.script_played.specs.Room.{by_record, flush_steps, is_move, moves_by_request, moves_in, steps_ahead, steps_by_request, steps_in}
+use Rattle.script_model.specs.{ScriptLine, Attach, Fill, Show, Send, WaitAll, WaitFor, PlannedSession}
+use Rattle.script_played.specs.{HistoriesFit, ask_of, asked_of, by_record, flush_steps, is_move, moves_by_request, moves_in, steps_ahead, steps_by_request, steps_in}
 use Rattle.script_played.proofs.Counting.{all_left, at_most_each, counted, filter_few, of_map, of_places}
 use Rattle.script_played.proofs.Owing.{asked_bytes, call_sends}
 
@@ -67,11 +41,19 @@ few_of range pages r e on =
     let passed : AllByRecursion (λ (check : Bool × Status). IsFalse check.0) (checks range pages r) = subst (λ (v : Verdict). IsByFirstCheck (checks range pages r) v) e (first_check_decides range pages r) in
     (both (nat_le 1 r.length) (nat_le r.length 65536) (only_not (names_blocks (opcode r)) (nat_le 1 r.length && nat_le r.length 65536) passed.1.1.1.0 on)).1
 
-few_asked : (range : Range) (r : Request) (o : Option Opcode) → (names_blocks o ≡ true → nat_le r.length 65536 ≡ true) → length (asked_by o range r) ≤ cond (names_blocks o && nat_le r.length 65536) r.length 0 + flush_steps o
+-- a forced write has one flush
+length-flush : (forced : Bool) (k : ℕ) → length (cond forced (flush_ask k ∷ []) []) ≡ cond forced 1 0
+length-flush true k = refl
+length-flush false k = refl
+
+few_asked : (range : Range) (r : Request) (o : Option Opcode) → (names_blocks o ≡ true → nat_le r.length 65536 ≡ true) → length (asked_by o range r) ≤ cond (names_blocks o && nat_le r.length 65536) r.length 0 + flush_steps o (is_forced r)
 few_asked range r (Some Read) few = let n = length-map-range_with_len (λ (k : ℕ). let a : Ask = record { k = k; op = op.Read; block = range.first + r.dev_offset + k } in a) 0 r.length in
     let f : cond (nat_le r.length 65536) r.length 0 ≡ r.length = ap (λ b. cond b r.length 0) (few refl) in omega (arith, n, f)
 few_asked range r (Some Write) few = let n = length-map-range_with_len (λ (k : ℕ). let a : Ask = record { k = k; op = op.Write; block = range.first + r.dev_offset + k } in a) 0 r.length in
-    let f : cond (nat_le r.length 65536) r.length 0 ≡ r.length = ap (λ b. cond b r.length 0) (few refl) in omega (arith, n, f)
+    let f : cond (nat_le r.length 65536) r.length 0 ≡ r.length = ap (λ b. cond b r.length 0) (few refl) in
+    let whole = length-append (for_each_block op.Write range r) (flush_after r) in
+    let last = length-flush (is_forced r) r.length in
+    omega (arith, n, f, whole, last)
 few_asked range r (Some Trim) few = let n = length-map-range_with_len (λ (k : ℕ). let a : Ask = record { k = k; op = op.Trim; block = range.first + r.dev_offset + k } in a) 0 r.length in
     let f : cond (nat_le r.length 65536) r.length 0 ≡ r.length = ap (λ b. cond b r.length 0) (few refl) in omega (arith, n, f)
 few_asked range r (Some Flush) few = omega arith
@@ -137,7 +119,7 @@ sent_calls [] = refl
 sent_calls (Received bytes ∷ log) = sent_calls log
 sent_calls (e ∷ log) = ap (cons_option (sent_bytes e)) (sent_calls log)
 
-sent_asked : (finish : Finish) (asks : List played.Ask) (calls : List Event) → are_calls_for finish asks calls ≡ true → sent calls ≡ filter_map asked_bytes asks
+sent_asked : (finish : Finish) (asks : List played.LineAsk) (calls : List Event) → are_calls_for finish asks calls ≡ true → sent calls ≡ filter_map asked_bytes asks
 sent_asked finish [] (e ∷ []) h = ap (λ o. cons_option o []) (end_sends finish e h)
 sent_asked finish (a ∷ asks) (e ∷ calls) h =
     let p = both (is_call_for a e) (are_calls_for finish asks calls) h in
@@ -153,7 +135,7 @@ of_lines f (Show id block count ∷ lines) = omega (arith, of_lines f lines, sum
 of_lines f (WaitAll ∷ lines) = omega (arith, of_lines f lines, sum_by-cons (by_record f) WaitAll lines)
 of_lines f (WaitFor total ∷ lines) = omega (arith, of_lines f lines, sum_by-cons (by_record f) (WaitFor total) lines)
 
-of_plan : (f : Request → ℕ) (plan : SessionPlan) (s : SessionReport) → IsPlayedBy (asked_of plan) s → sum_by f (requests s.log.items) ≡ sum_by (by_record f) plan.lines
+of_plan : (f : Request → ℕ) (plan : PlannedSession) (s : SessionReport) → IsPlayedBy (asked_of plan) s → sum_by f (requests s.log.items) ≡ sum_by (by_record f) plan.lines
 of_plan f plan s h =
     ap (λ bs. sum_by f (map request_of bs)) (sym (sent_calls s.log.items) ∙ sent_asked plan.finish (calls_asked (map ask_of plan.lines)) (calls_in s.log.items) h.calls)
     ∙ of_lines f plan.lines
@@ -192,44 +174,80 @@ all_moves : {A : Type 0} (f : A → MemEvent) → ((x : A) → is_move (f x) ≡
 all_moves f h [] = refl
 all_moves f h (x ∷ xs) = ap (λ b. length (cond b (f x ∷ filter is_move (map f xs)) (filter is_move (map f xs)))) (h x) ∙ ap suc (all_moves f h xs)
 
-rest_short : (asks : List Ask) (steps : List Step) (faulted : Bool) → cond faulted status.Io (ended asks steps) ≡ status.NoMemory → cond faulted (is_nil steps) (carries_out asks steps) ≡ true
-    → (ended asks steps ≡ status.NoMemory → carries_out asks steps ≡ true → length steps < length asks) → length steps < length asks
-rest_short asks steps true e c h = absurd (cc e)
-rest_short asks steps false e c h = h e c
+-- ---- of the steps of a write those that write
 
--- where memory was refused, a step is left out
-short : (asks : List Ask) (steps : List Step) → ended asks steps ≡ status.NoMemory → carries_out asks steps ≡ true → length steps < length asks
-short [] [] e c = absurd (cc e)
-short (ask ∷ asks) [] e c = omega arith
-short [] (step ∷ steps) e c = absurd (cc c)
-short (ask ∷ asks) (step ∷ steps) e c =
-    let rest = rest_short asks steps step.faulted e (both (is_step_for ask step) (cond step.faulted (is_nil steps) (carries_out asks steps)) c).1 (short asks steps) in
-    omega (arith, rest)
+one_more : (b : Bool) (step : Step) (steps : List Step) → length (cond b (step ∷ steps) steps) ≤ suc (length steps)
+one_more true step steps = omega arith
+one_more false step steps = omega arith
+
+flush_no_write : (o : Op) → same_op o op.Flush ≡ true → same_op o op.Write ≡ false
+flush_no_write op.Flush e = refl
+flush_no_write op.Read e = refl
+flush_no_write op.Trim e = refl
+flush_no_write op.Write e = absurd (cc e)
+
+last_part : (a b c : Bool) → (a && b && c) ≡ true → b ≡ true
+last_part true true c e = refl
+last_part true false c e = absurd (cc e)
+last_part false b c e = absurd (cc e)
+
+nothing_after : (faulted : Bool) (steps : List Step) → cond faulted (is_nil steps) (carries_out [] steps) ≡ true → steps ≡ []
+nothing_after faulted [] e = refl
+nothing_after true (step ∷ steps) e = absurd (cc e)
+nothing_after false (step ∷ steps) e = absurd (cc e)
+
+rest_writes : (asks : List Ask) (most : ℕ) (steps : List Step) (faulted : Bool) → cond faulted (is_nil steps) (carries_out asks steps) ≡ true → (carries_out asks steps ≡ true → length (writes_of steps) ≤ most) → length (writes_of steps) ≤ most
+rest_writes asks most [] faulted e h = omega arith
+rest_writes asks most (step ∷ steps) true e h = absurd (cc e)
+rest_writes asks most (step ∷ steps) false e h = h e
+
+-- at most as many as there are blocks; a flush may come after them
+few_writes : (blocks : List Ask) (forced : Bool) (n : ℕ) (steps : List Step) → carries_out (blocks ++ cond forced (flush_ask n ∷ []) []) steps ≡ true → length (writes_of steps) ≤ length blocks
+few_writes blocks forced n [] e = omega arith
+few_writes [] false n (step ∷ steps) e = absurd (cc e)
+few_writes [] true n (step ∷ steps) e =
+    let p = both (is_step_for (flush_ask n) step) (cond step.faulted (is_nil steps) (carries_out [] steps)) e in
+    let none : writes_of (step ∷ steps) ≡ [] =
+    ap (λ l. writes_of (step ∷ l)) (nothing_after step.faulted steps p.1)
+    ∙ ap (λ b. cond b (step ∷ []) []) (flush_no_write step.op (last_part (step.k == n) (same_op step.op op.Flush) (step.block == 0) p.0)) in
+    let few : length (writes_of (step ∷ steps)) ≡ 0 = ap length none in
+    omega (arith, few)
+few_writes (ask ∷ blocks) forced n (step ∷ steps) e =
+    let asks = blocks ++ cond forced (flush_ask n ∷ []) [] in
+    let rest = rest_writes asks (length blocks) steps step.faulted (both (is_step_for ask step) (cond step.faulted (is_nil steps) (carries_out asks steps)) e).1 (few_writes blocks forced n steps) in
+    let one = one_more (same_op step.op op.Write) step (writes_of steps) in
+    omega (arith, rest, one)
 
 take_one : {A : Type 0} (xs : List A) → length (take 1 xs) ≤ 1
 take_one [] = omega arith
 take_one (x ∷ xs) = omega arith
 
-spare_few : (st : Status) (i : ℕ) (r : Request) (own : List MemEvent) (asks : List Ask) (steps : List Step) → st ≡ ended asks steps → carries_out asks steps ≡ true
-    → length steps + length (filter is_move (spare st (length steps) i r own)) ≤ length asks
-spare_few status.NoMemory i r own asks steps e c =
-    let rest = filter_few is_move (take 1 (filter_map (lift_at (length steps) i r) own)) in
-    let one = take_one (filter_map (lift_at (length steps) i r) own) in
-    omega (arith, rest, one, short asks steps (sym e) c)
-spare_few _ i r own asks steps e c = let h = few_made asks steps c in omega (arith, h)
+-- a spare lift is there only where a block is left
+lifted_few : (b : Bool) (made writes most : ℕ) (lifts : List MemEvent) → nat_lt made most ≡ b → writes ≤ made → writes ≤ most → writes + length (filter is_move (cond b (take 1 lifts) [])) ≤ most
+lifted_few true made writes most lifts e few all =
+    let rest = filter_few is_move (take 1 lifts) in
+    let one = take_one lifts in
+    omega (arith, rest, one, few, ltb-true made most e)
+lifted_few false made writes most lifts e few all = omega (arith, all)
 
-write_moves : (st : Status) (i : ℕ) (r : Request) (own : List MemEvent) (asks : List Ask) (steps : List Step) → st ≡ ended asks steps → carries_out asks steps ≡ true
-    → length (filter is_move (entries_for (Some Write) st i r steps own)) ≤ length asks
-write_moves st i r own asks steps e c =
-    let lifts = map (λ (step : Step). lift_for i r step.k step.bytes) steps in
+spare_few : (st : Status) (i : ℕ) (r : Request) (own : List MemEvent) (steps : List Step) → length (writes_of steps) ≤ r.length
+    → length (writes_of steps) + length (filter is_move (spare st (length steps) i r own)) ≤ r.length
+spare_few status.NoMemory i r own steps few = lifted_few (nat_lt (length steps) r.length) (length steps) (length (writes_of steps)) r.length (filter_map (lift_at (length steps) i r) own) refl (filter_few (λ (step : Step). same_op step.op op.Write) steps) few
+spare_few _ i r own steps few = omega (arith, few)
+
+write_moves : (st : Status) (i : ℕ) (r : Request) (own : List MemEvent) (steps : List Step) → length (writes_of steps) ≤ r.length
+    → length (filter is_move (entries_for (Some Write) st i r steps own)) ≤ r.length
+write_moves st i r own steps few =
+    let lifts = map (λ (step : Step). lift_for i r step.k step.bytes) (writes_of steps) in
     let extra = spare st (length steps) i r own in
     let split : filter is_move ((lifts ++ extra) ++ Done i r.vmoid ∷ []) ≡ (filter is_move lifts ++ filter is_move extra) ++ [] =
     filter-append is_move (lifts ++ extra) (Done i r.vmoid ∷ []) ∙ ap (λ l. l ++ []) (filter-append is_move lifts extra) in
-    let a = all_moves (λ (step : Step). lift_for i r step.k step.bytes) (λ step. refl) steps in
+    let a = all_moves (λ (step : Step). lift_for i r step.k step.bytes) (λ step. refl) (writes_of steps) in
     let n = ap length split in
     let m = length-append (filter is_move lifts ++ filter is_move extra) [] in
     let k = length-append (filter is_move lifts) (filter is_move extra) in
-    omega (arith, n, m, k, a, spare_few st i r own asks steps e c)
+    let s = spare_few st i r own steps few in
+    omega (arith, n, m, k, a, s)
 
 read_moves : (st : Status) (i : ℕ) (r : Request) (own : List MemEvent) (asks : List Ask) (steps : List Step) → carries_out asks steps ≡ true
     → length (filter is_move (entries_for (Some Read) st i r steps own)) ≤ length asks
@@ -250,9 +268,11 @@ moves_owed (Some Read) range st i r own steps few e c =
     let n = few_asked range r (Some Read) few in
     omega (arith, h, n)
 moves_owed (Some Write) range st i r own steps few e c =
-    let h = write_moves st i r own (asked_by (Some Write) range r) steps e c in
-    let n = few_asked range r (Some Write) few in
-    omega (arith, h, n)
+    let blocks = length-map-range_with_len (λ (k : ℕ). let a : Ask = record { k = k; op = op.Write; block = range.first + r.dev_offset + k } in a) 0 r.length in
+    let writes = few_writes (for_each_block op.Write range r) (is_forced r) r.length steps c in
+    let h = write_moves st i r own steps (omega (arith, blocks, writes)) in
+    let f : cond (nat_le r.length 65536) r.length 0 ≡ r.length = ap (λ b. cond b r.length 0) (few refl) in
+    omega (arith, h, f)
 moves_owed (Some Trim) range st i r own steps few e c = omega arith
 moves_owed (Some Flush) range st i r own steps few e c = omega arith
 moves_owed (Some Close) range st i r own steps few e c = omega arith
@@ -303,15 +323,15 @@ module _ (report : Report) where
   steps_for : ℕ → ℕ
   steps_for number = length (filter (λ step. step.session == number) report.steps.items)
 
-  session_fits : (plan : SessionPlan) (s : SessionReport) → IsPlayedBy (asked_of plan) s → IsLawfulSession (session_of report s) → steps_for s.number ≤ steps_in plan.lines
+  session_fits : (plan : PlannedSession) (s : SessionReport) → IsPlayedBy (asked_of plan) s → IsLawfulSession (session_of report s) → steps_for s.number ≤ steps_in plan.lines
   unfolding steps_for steps_in
   session_fits plan s p h = let a = session_steps (session_of report s) h in let b = of_plan steps_by_request plan s p in omega (arith, a, b)
 
-  moves_fit : (plan : SessionPlan) (s : SessionReport) → IsPlayedBy (asked_of plan) s → IsLawfulSession (session_of report s) → count is_move (map (λ e. e.what) s.memory.items) ≤ moves_in plan.lines
+  moves_fit : (plan : PlannedSession) (s : SessionReport) → IsPlayedBy (asked_of plan) s → IsLawfulSession (session_of report s) → count is_move (map (λ e. e.what) s.memory.items) ≤ moves_in plan.lines
   unfolding moves_in
   moves_fit plan s p h = let a = session_moves (session_of report s) h in let b = of_plan moves_by_request plan s p in omega (arith, a, b)
 
-  all_fit : (plans : List SessionPlan) (sessions : List SessionReport) → AllZip IsPlayedBy (map asked_of plans) sessions → AllByRecursion (λ s. IsLawfulSession (session_of report s)) sessions
+  all_fit : (plans : List PlannedSession) (sessions : List SessionReport) → AllZip IsPlayedBy (map asked_of plans) sessions → AllByRecursion (λ s. IsLawfulSession (session_of report s)) sessions
       → sum_by (λ s. steps_for s.number) sessions ≤ sum_by (λ p. steps_in p.lines) plans
   all_fit [] [] p h = omega arith
   all_fit [] (s ∷ sessions) p h = absurd p
@@ -319,9 +339,9 @@ module _ (report : Report) where
   all_fit (plan ∷ plans) (s ∷ sessions) p h =
       let here = session_fits plan s p.0 h.0 in
       let rest = all_fit plans sessions p.1 h.1 in
-      omega (arith, here, rest, sum_by-cons (λ (x : SessionReport). steps_for x.number) s sessions, sum_by-cons (λ (x : SessionPlan). steps_in x.lines) plan plans)
+      omega (arith, here, rest, sum_by-cons (λ (x : SessionReport). steps_for x.number) s sessions, sum_by-cons (λ (x : PlannedSession). steps_in x.lines) plan plans)
 
-  all_moves_fit : (plans : List SessionPlan) (sessions : List SessionReport) → AllZip IsPlayedBy (map asked_of plans) sessions → AllByRecursion (λ s. IsLawfulSession (session_of report s)) sessions
+  all_moves_fit : (plans : List PlannedSession) (sessions : List SessionReport) → AllZip IsPlayedBy (map asked_of plans) sessions → AllByRecursion (λ s. IsLawfulSession (session_of report s)) sessions
       → AllZip (λ plan s. count is_move (map (λ e. e.what) s.memory.items) ≤ moves_in plan.lines) plans sessions
   all_moves_fit [] [] p h = tt
   all_moves_fit [] (s ∷ sessions) p h = absurd p

@@ -7,27 +7,20 @@ use Rattle.std.proofs.lemmas.List.{map-append}
 use Rattle.std.proofs.lemmas.List.Elements.{filter-append}
 use Rattle.std.proofs.lemmas.Slice.Eq.{bytes_eq-Decides}
 use Rattle.host_record.specs.declared.request.Request.{Request}
-use Rattle.host_record.specs.declared.finish.Finish.{Finish}
-use Rattle.host_record.specs.Request.{request_of}
-use Rattle.host_model.specs.declared.event.Event.{Event}
-use Rattle.host_model.specs.declared.event.Event.TheVariants.{Attached, NotAttached, Filled, Sent, Received, Shown}
-use Rattle.host_model.specs.Groups.{is_owing, owed}
-use Rattle.host_model.specs.Log.{requests, sent, sent_bytes}
-use Rattle.host_report.specs.Played.{Ask, are_calls_for, attach, before_call, calls_asked, calls_in, fill, is_call_for, is_wait, send, show}
-use Rattle.script_model.specs.declared.script.ScriptLine.{ScriptLine}
-use Rattle.script_model.specs.declared.script.ScriptLine.TheVariants.{Attach, Fill, Show, Send, WaitAll, WaitFor}
-use Rattle.script_model.specs.Owed.{owes, owed as owed_by}
+use Rattle.host_record.specs.{Finish, request_of}
+use Rattle.host_model.specs.{Event, Attached, NotAttached, Filled, Sent, Received, Shown, is_owing, owed, requests, sent, sent_bytes}
+use Rattle.host_report.specs.{LineAsk, are_calls_for, attach, before_call, calls_asked, calls_in, fill, is_call_for, is_wait, send, show}
+use Rattle.script_model.specs.{ScriptLine, Attach, Fill, Show, Send, WaitAll, WaitFor, owes, owed as owed_by}
 use Rattle.script_model.proofs.PrintedValues.{and_true}
-use Rattle.script_played.specs.Laws.{OwedAsWritten}
-use Rattle.script_played.specs.Played.{ask_of}
+use Rattle.script_played.specs.{OwedAsWritten, ask_of}
 
 -- ---- the records that were asked for
 
-abbrev pub asked_bytes : Ask → Option (List ℕ)
+abbrev pub asked_bytes : LineAsk → Option (List ℕ)
 asked_bytes (send bytes) = Some bytes
 asked_bytes _ = None
 
-pub call_sends : (a : Ask) (e : Event) → is_call_for a e ≡ true → sent_bytes e ≡ asked_bytes a
+pub call_sends : (a : LineAsk) (e : Event) → is_call_for a e ≡ true → sent_bytes e ≡ asked_bytes a
 call_sends (send bytes) (Sent index sent) h = ap Some (sym ((bytes_eq-Decides bytes sent).0 h))
 call_sends (attach pages) (Attached given id) h = refl
 call_sends (attach pages) (NotAttached given cause) h = refl
@@ -36,7 +29,7 @@ call_sends (show id block count) (Shown i b c done bytes) h = refl
 call_sends _ _ h = cc
 
 -- the records of a log before a call are those that were asked for before it
-sent_before : (finish : Finish) (before rest : List Ask) (log : List Event) → are_calls_for finish (before ++ rest) (calls_in log) ≡ true
+sent_before : (finish : Finish) (before rest : List LineAsk) (log : List Event) → are_calls_for finish (before ++ rest) (calls_in log) ≡ true
     → sent (before_call (length before) log) ≡ filter_map asked_bytes before
 sent_before finish [] rest [] h = refl
 sent_before finish (a ∷ before) rest [] h = cc

@@ -1,17 +1,18 @@
 -- How many entries the histories of a run get at most, by the script that it plays.
-use Rattle.std.specs.Prelude.{ℕ, ◌+◌, Bool, true, false, ◌&&◌, nat_le, if◌then◌else◌, List, Option, Some}
+use Rattle.std.specs.Prelude.{ℕ, ◌+◌, Bool, true, false, ◌&&◌, nat_le, if◌then◌else◌, List, Option}
+use Rattle.std.specs.Prelude.{Some}
 use Rattle.std.specs.List.{sum_by}
 use Rattle.host_model.specs.declared.memory.MemEvent.{MemEvent}
 use Rattle.host_model.specs.declared.memory.MemEvent.TheVariants.{Lift, Land}
-use Rattle.host_record.specs.Command.{opcode, is_transfer}
+use Rattle.host_record.specs.Command.{opcode, is_forced, is_transfer}
 use Rattle.host_record.specs.Request.{request_of}
 use Rattle.host_record.specs.declared.opcode.Opcode.{Opcode}
-use Rattle.host_record.specs.declared.opcode.Opcode.TheVariants.{Flush}
+use Rattle.host_record.specs.declared.opcode.Opcode.TheVariants.{Flush, Write}
 use Rattle.host_record.specs.declared.request.Request.{Request}
 use Rattle.script_model.specs.declared.script.ScriptLine.{ScriptLine}
 use Rattle.script_model.specs.declared.script.ScriptLine.TheVariants.{Send}
 use Rattle.script_model.specs.Limit.{moved_by_request}
-use Rattle.script_model.specs.Plans.{SessionPlan}
+use Rattle.script_model.specs.Plans.{PlannedSession}
 
 -- what f gives of the line's record
 abbrev pub by_record : (Request → ℕ) → ScriptLine → ℕ
@@ -20,19 +21,21 @@ by_record f _ = 0
 
 -- ---- the device's steps
 
-abbrev pub flush_steps : Option Opcode → ℕ
-flush_steps (Some Flush) = 1
-flush_steps _ = 0
+-- a flush makes one step, and a forced write has one flush
+abbrev pub flush_steps : Option Opcode → Bool → ℕ
+flush_steps (Some Flush) forced = 1
+flush_steps (Some Write) forced = if forced then 1 else 0
+flush_steps _ forced = 0
 
--- a record makes one step for each block that it moves, and a flush makes one
+-- a record makes one step for each block that it moves, and those of its flush
 abbrev pub steps_by_request : Request → ℕ
-steps_by_request r = moved_by_request r + flush_steps (opcode r)
+steps_by_request r = moved_by_request r + flush_steps (opcode r) (is_forced r)
 
 unfoldable pub steps_in : List ScriptLine → ℕ
 steps_in lines = sum_by (by_record steps_by_request) lines
 
 -- the steps of all sessions, and the closing flush
-unfoldable pub steps_ahead : List SessionPlan → ℕ
+unfoldable pub steps_ahead : List PlannedSession → ℕ
 steps_ahead plans = sum_by (λ s. steps_in s.lines) plans + 1
 
 -- ---- the buffers' lifts and landings

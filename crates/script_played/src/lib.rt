@@ -1,4 +1,5 @@
-//! Whether the run that a report tells of played a script, what follows from it, and how long its histories get at most.
+//! Whether the run that a report tells of played a script, what follows from it, and how long its
+//! histories get at most.
 #![tactic(auto)]
 
 mod laws;

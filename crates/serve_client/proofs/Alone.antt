@@ -4,20 +4,13 @@ use Rattle.std.specs.Prelude.{slice_get, sum_by}
 use Rattle.std.specs.List.{list_any}
 use Rattle.std.proofs.lemmas.List.Elements.{All-cons, All-nil}
 use Rattle.std.proofs.lemmas.List.Sums.{sum_by-cons}
-use Rattle.host_frames.specs.declared.seat.PoolSeat.{PoolSeat}
-use Rattle.host_frames.specs.Seats.{asked, given_back, granted}
-use Rattle.host_frames.specs.Sums.{total}
+use Rattle.host_frames.specs.{PoolSeat, frames_asked, given_back, granted}
+use Rattle.host_log.specs.{total}
 use Rattle.host_io.specs.declared.disk.Disk as disk
-use Rattle.host_report.specs.Lawful.{is_short_of_frames}
-use Rattle.host_session.specs.Client.{ClientState}
-use Rattle.host_session.specs.Plan.{SessionPlan}
-use Rattle.host_worker.specs.declared.hand.Hand.{Hand}
-use Rattle.host_worker.specs.declared.server.Server.{Server}
-use Rattle.host_worker.specs.Accounts.{AreAccounted, frames_of, pages_attached, pages_wanted, pool_seats_of, released_of}
-use Rattle.host_worker.specs.Finishes.{AreClosed, AreHands}
-use Rattle.host_worker.specs.Hands.{IsHandOf}
-use Rattle.host_worker.specs.Servers.{plan_of}
-use Rattle.host_play.specs.Calls.{IsSquare}
+use Rattle.host_report.specs.{is_short_of_frames}
+use Rattle.host_session.specs.{ClientState, SessionPlan}
+use Rattle.host_worker.specs.{Hand, Server, AreAccounted, frames_of, pages_attached, pages_wanted, pool_seats_of, released_of, AreClosed, AreHands, IsHandOf, plan_of_session}
+use Rattle.host_play.specs.{IsSquare}
 use Rattle.host_play.proofs.Accounts.{or_left}
 
 -- the last of a list of one
@@ -35,7 +28,7 @@ module _ {D : Type 0} {g : disk.Ghosts D} (hand : Hand D g) (client : ClientStat
   pub accounted : IsSquare hand client → AreAccounted (hand ∷ []) (client ∷ [])
   accounted square = record {
     granted_are = one_total granted ∙ (square.granted_is ∙ sym (one_sum pages_attached client));
-    asked_are = omega (arith, one_total asked, square.asked_within, one_sum pages_wanted client);
+    asked_are = omega (arith, one_total frames_asked, square.asked_within, one_sum pages_wanted client);
     refused = λ short. inl (square.refused (or_left (list_any is_short_of_frames client.log) short));
     given_back_are = omega (arith, one_total given_back, square.given_back_is, one_sum (frames_of {D = D} {g = g}) hand, one_sum released_of client);
   }
@@ -48,7 +41,7 @@ module _ {D : Type 0} {g : disk.Ghosts D} (hand : Hand D g) (client : ClientStat
         by zero x at = let same : hand ≡ x = cc at in subst (λ (h : Hand D g). (h.number ≡ 0) × IsHandOf server h) same (number, own)
         by (suc n) x at = absurd (cc at)
 
-    pub are_closed : (plan : SessionPlan) → map plan_of server.sessions.items ≡ plan ∷ [] → client.plan ≡ plan → client.closed ≡ true → AreClosed server (client ∷ [])
+    pub are_closed : (plan : SessionPlan) → map plan_of_session server.sessions.items ≡ plan ∷ [] → client.plan ≡ plan → client.closed ≡ true → AreClosed server (client ∷ [])
     are_closed plan plans same closed = record {
       plans = ap (λ (p : SessionPlan). p ∷ []) same ∙ sym plans;
       closed = All-cons (λ (c : ClientState). c.closed ≡ true) client [] closed (All-nil (λ (c : ClientState). c.closed ≡ true));

@@ -1,17 +1,10 @@
 -- A client that asked may wait again, and helped meanwhile.
 use Rattle.std.proofs.Common.{◌≡◌, ℕ, ◌+◌, ◌-◌, ◌≤◌, List, [], length, None, sym, ap, subst, ◌∙◌, arith}
 use Rattle.host_io.specs.declared.disk.Disk as disk
-use Rattle.host_model.specs.declared.event.Event.{Event}
-use Rattle.host_model.specs.Log.{received, sent}
-use Rattle.host_session.specs.Client.{ClientState, room_left}
-use Rattle.host_session.specs.Endings.{owed_count}
-use Rattle.host_session.specs.Opened.{IsNewClient}
-use Rattle.host_worker.specs.Accounts.{HasWorked}
-use Rattle.host_worker.specs.Hands.{IsHandOf}
-use Rattle.host_worker.specs.Waits.{HasReceived, HasRoom, HasSent, KeepsRoom, KeepsRoomBut, MayWait}
-use Rattle.host_worker.specs.declared.hand.Hand.{Hand}
-use Rattle.host_worker.specs.declared.server.Server.{Server}
-use Rattle.host_play.specs.Calls.{HasHelped}
+use Rattle.host_model.specs.{Event, received, sent}
+use Rattle.host_session.specs.{ClientState, room_left, owed_count, IsNewClient}
+use Rattle.host_worker.specs.{HasWorked, IsHandOf, HasReceived, HasAnswerRoom, HasSent, KeepsRoom, KeepsRoomBut, MayWait, Hand, Server}
+use Rattle.host_play.specs.{HasHelped}
 use Rattle.host_play.proofs.Accounts.{square_worked}
 use Rattle.host_play.proofs.LineSteps.{send_done, wait_all_done}
 use Rattle.host_play.proofs.Quiet.{received_before, sent_before}

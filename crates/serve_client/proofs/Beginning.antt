@@ -3,23 +3,14 @@ use Rattle.std.proofs.Common.{◌≡◌, ℕ, zero, suc, ◌+◌, ◌^◌, ◌<�
 use Rattle.std.specs.Prelude.{slice_get}
 use Rattle.std.proofs.lemmas.List.Elements.{All-cons, All-nil}
 use mathlib.Core.List.{map-map}
-use Rattle.host_device.specs.declared.device.Device.{Device}
+use Rattle.host_device.specs.{Device}
 use Rattle.host_io.specs.declared.disk.Disk as disk
-use Rattle.host_session.specs.Client.{ClientState}
-use Rattle.host_session.specs.Opened.{IsNewClient}
-use Rattle.host_session.specs.declared.spec.SessionSpec.{SessionSpec}
-use Rattle.host_turn.specs.Seats.{opening_of}
-use Rattle.host_worker.specs.declared.hand.Hand.{Hand}
-use Rattle.host_worker.specs.declared.server.Server.{Server}
-use Rattle.host_worker.specs.declared.session.Session.{Session}
-use Rattle.host_worker.specs.declared.started.Started.{Started}
-use Rattle.host_worker.specs.Hands.{IsHandOf}
-use Rattle.host_worker.specs.Servers.{IsClientOf, IsServer}
-use Rattle.host_worker.specs.Starts.{AreSpecs, IsPlanned, IsStarted}
+use Rattle.host_session.specs.{ClientState, IsNewClient, SessionSpec}
+use Rattle.host_turn.specs.{opening_of}
+use Rattle.host_worker.specs.{Hand, Server, Session, Started, IsHandOf, IsClientOf, IsServer, AreSpecs, IsPlanned, IsStarted}
 use Rattle.host_worker.proofs.Lists.{at_place, map_at, map_from}
 use Rattle.serve_client.specs.declared.begun.Begun.{Begun}
-use Rattle.serve_client.specs.declared.load.Load.{Load}
-use Rattle.serve_client.specs.Begun.{IsBegunOver, spec_for}
+use Rattle.serve_client.specs.{Load, IsBegunOver, spec_for}
 
 -- the one element of a list was popped
 pub popped : {A : Type 0} (old new : List A) (x : A) → length old ≡ 1 → old ≡ new ++ x ∷ [] → (new ≡ []) × (old ≡ x ∷ [])

@@ -2,24 +2,17 @@
 use Rattle.std.proofs.Common.{◌≡◌, ℕ, zero, suc, ◌+◌, ◌<◌, Bool, true, false, ◌&&◌, List, [], ◌∷◌, length, All, Option, Some, refl, sym, ap, ap₂, subst, ◌∙◌, arith}
 use Rattle.std.specs.Prelude.{slice_get, is_some, IfSome, IsTrue}
 use Rattle.std.proofs.lemmas.Option.{slice_get_within}
-use Rattle.host_block.specs.Changes.{Change}
-use Rattle.host_block.specs.Disk.{DiskState, IsImage}
-use Rattle.host_device.specs.declared.device.Device.{Device}
-use Rattle.host_device.specs.declared.fixed.DeviceFixed.{DeviceFixed}
-use Rattle.host_device.specs.Faults.{RoseBy, faulted_count}
-use Rattle.host_device.specs.Seen.{KeepsHistory, disk_of, fixed_of, image_of, opening_of, shape_of, steps_of}
-use Rattle.host_io.specs.Disks.{Shape}
+use Rattle.host_block.specs.{Change, DiskState, IsImage}
+use Rattle.host_device.specs.{Device, DeviceFixed, RoseBy, faulted_count, KeepsHistory, disk_of, fixed_of, image_of, opening_of, shape_of, steps_of}
+use Rattle.host_io.specs.{Shape}
 use Rattle.host_io.specs.declared.disk.Disk as disk
-use Rattle.host_model.specs.declared.event.Event.{Event}
-use Rattle.host_model.specs.declared.step.Step.{Step}
-use Rattle.host_model.specs.Changes.{changes_of}
-use Rattle.host_model.specs.Log.{sent}
-use Rattle.host_play.specs.Plays.{KeepsImage}
-use Rattle.host_report.specs.declared.session.SessionReport.{SessionReport}
-use Rattle.host_session.specs.Client.{ClientState}
-use Rattle.host_worker.specs.Ends.{EndsState}
+use Rattle.host_model.specs.{Event, Step, changes_of, sent}
+use Rattle.host_play.specs.{KeepsImage}
+use Rattle.host_report.specs.{SessionReport}
+use Rattle.host_session.specs.{ClientState}
+use Rattle.host_worker.specs.{EndsState}
 use Rattle.host_worker.proofs.Lists.{each_place}
-use Rattle.serve_client.specs.Served.{HasAttended}
+use Rattle.serve_client.specs.{HasAttended}
 
 pub and_same : (b : Bool) → (b && b) ≡ b
 and_same true = refl

@@ -6,7 +6,7 @@ use Rattle.host_session.specs.Opened.{IsNewClient}
 use Rattle.host_session.specs.declared.spec.SessionSpec.{SessionSpec}
 use Rattle.host_turn.specs.Seats.{opening_of}
 use Rattle.host_worker.specs.Hands.{IsHandOf, IsNewHand}
-use Rattle.host_worker.specs.Servers.{IsClientOf, IsServer, plan_of}
+use Rattle.host_worker.specs.Servers.{IsClientOf, IsServer, plan_of_session}
 use Rattle.serve_client.specs.declared.begun.Begun.{Begun}
 use Rattle.serve_client.specs.declared.load.Load.{Load}
 
@@ -26,14 +26,15 @@ spec_for load keeps = record {
 }
 
 module _ {D : Type 0} {g : disk.Ghosts D} where
-  -- A server that runs, with one hand and one client, which have done nothing and may send so many records.
+  -- A server that runs, with one hand and one client, which have done nothing and may send so many
+  -- records.
   pub record IsBegun (records : ℕ) (begun : Begun D g) : Type 0 where
     pub server : IsServer begun.server
     pub one_hand : begun.server.hands ≡ 1
     pub client : IsClientOf begun.server begun.client
     pub new : IsNewClient begun.client
     pub records_are : begun.client.plan.spec.records ≡ records
-    pub plans : map plan_of begun.server.sessions.items ≡ begun.client.plan ∷ []
+    pub plans : map plan_of_session begun.server.sessions.items ≡ begun.client.plan ∷ []
     pub number : begun.hand.number ≡ 0
     pub hand : IsHandOf begun.server begun.hand
     pub new_hand : IsNewHand begun.hand

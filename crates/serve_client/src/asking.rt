@@ -3,7 +3,7 @@ ghost use Rattle.std.specs.Prelude.{◌≡◌, ◌<◌, length, IsTrue};
 ghost use Rattle.host_model.specs.Log.{sent};
 ghost use Rattle.host_worker.specs.Hands.{IsHandOf};
 ghost use Rattle.host_worker.specs.Servers.{IsClientOf, IsServer};
-ghost use Rattle.host_worker.specs.Waits.{HasRoom, MayWait};
+ghost use Rattle.host_worker.specs.Waits.{HasAnswerRoom, MayWait};
 ghost use Rattle.host_play.specs.Calls.{HasHelped};
 
 use host_io::{Disk, Gate};
@@ -42,7 +42,7 @@ pub fn ask_all<R: Wait, D: Disk, G: Gate>(
 
 // Whether there is room for one record more, and for its answer.
 fn may_ask(client: &ClientEnd, records: u32) -> bool
-    ensures room { IsTrue result → HasRoom 2 client.now }
+    ensures room { IsTrue result → HasAnswerRoom 2 client.now }
     ensures records { IsTrue result → length (sent client.now.log) < records }
 {
     let flying = client.sent().saturating_sub(client.received()) as u64;

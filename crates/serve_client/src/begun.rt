@@ -1,5 +1,6 @@
 //! A server with one client and one hand.
-ghost use Rattle.std.specs.Prelude.{◌≡◌, ◌+◌, ◌≤◌, [], ◌∷◌, MatchResult, IfOk, vec_capacity, vec_len};
+ghost use Rattle.std.specs.Prelude.{◌≡◌, ◌+◌, ◌≤◌, [], ◌∷◌, MatchResult, IfOk, vec_capacity};
+ghost use Rattle.std.specs.Prelude.{vec_len};
 ghost use Rattle.host_device.specs.Seen.{shape_of, steps_of};
 ghost use Rattle.serve_client.specs.Begun.{IsBegunOver, spec_for};
 
@@ -27,9 +28,11 @@ pub fn begin<D: Disk>(
     device: Device<D>,
     load: &Load,
 ) -> Result<Begun<D>, NoServer<D>>
-    requires device { ((steps_of device).items ≡ []) × ((shape_of device).size ≡ load.now.size) × ((shape_of device).blocks ≡ load.now.blocks) }
+    requires device { ((steps_of device).items ≡ []) × ((shape_of device).size ≡ load.now.size)
+        × ((shape_of device).blocks ≡ load.now.blocks) }
     requires range { load.now.range.first + load.now.range.count ≤ load.now.blocks }
-    ensures { MatchResult result (λ begun. IsBegunOver device load.now begun) (λ no. no.device ≡ device) }
+    ensures { MatchResult result (λ begun. IsBegunOver device load.now begun)
+        (λ no. no.device ≡ device) }
 {
     let specs = match specs_for(alloc, load, device.is_kept()) {
         Ok(specs) => specs,

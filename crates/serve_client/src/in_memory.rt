@@ -12,7 +12,8 @@ use host_io::{Disk, MemDisk, OpenGate};
 use std::alloc::Global;
 use std::sync::Wait;
 
-/// Serves so many records over 64 blocks in memory, whose device keeps its history or not. `None` for want of memory.
+/// Serves so many records over 64 blocks in memory, whose device keeps its history or not. `None`
+/// for want of memory.
 pub fn serve_in_memory<R: Wait>(
     rt: &R,
     alloc: Global,

@@ -1,4 +1,5 @@
-//! A server serves one client for as long as it asks, and keeps its histories or not. What is proved of it is the same.
+//! A server serves one client for as long as it asks, and keeps its histories or not. What is
+//! proved of it is the same.
 #![tactic(auto)]
 
 mod asking;

@@ -1,6 +1,7 @@
 use host_block::{BlockSize, Range};
 
-/// What a client asks for: so many records, on this range of a device of so many blocks of this size.
+/// What a client asks for: so many records, on this range of a device of so many blocks of this
+/// size.
 #[derive(Clone, Copy)]
 pub struct Load {
     pub range: Range,

@@ -15,12 +15,13 @@ use host_gpt::Which;
 use host_io::{Disk, Gate};
 use host_report::Closing;
 use host_worker::{Finished, NoServer, drain, gather};
-use report_law::gathered_runs_are_lawful;
+use play_law::gathered_runs_are_lawful;
 use std::alloc::Global;
 use std::sync::Wait;
 
-/// Serves a client until it has asked for all, and finishes the server. The report is there where the device keeps its
-/// history; what is proved of sessions, steps and disk is the same where it isn't.
+/// Serves a client until it has asked for all, and finishes the server. The report is there where
+/// the device keeps its history; what is proved of sessions, steps and disk is the same where it
+/// isn't.
 pub fn serve<R: Wait, D: Disk, G: Gate>(
     rt: &R,
     alloc: Global,
@@ -28,9 +29,11 @@ pub fn serve<R: Wait, D: Disk, G: Gate>(
     load: &Load,
     gate: &G,
 ) -> Result<Outcome<D>, NoServer<D>>
-    requires device { ((steps_of device).items ≡ []) × ((shape_of device).size ≡ load.now.size) × ((shape_of device).blocks ≡ load.now.blocks) }
+    requires device { ((steps_of device).items ≡ []) × ((shape_of device).size ≡ load.now.size)
+        × ((shape_of device).blocks ≡ load.now.blocks) }
     requires range { load.now.range.first + load.now.range.count ≤ load.now.blocks }
-    ensures { MatchResult result (λ done. IsServed device load.now done) (λ no. no.device ≡ device) }
+    ensures { MatchResult result (λ done. IsServed device load.now done)
+        (λ no. no.device ≡ device) }
 {
     let begun = begin(alloc, device, load)?;
     let (finished, sent) = attend(rt, alloc, begun, load.records, gate);
@@ -50,7 +53,8 @@ fn attend<R: Wait, D: Disk, G: Gate>(
 ) -> (Finished<D>, u32)
     requires { IsBegun records begun }
     ensures attended { HasAttended result.0.ends result.1 }
-    ensures story { (result.0.ends.story ≡ (steps_of result.0.device).items) × (result.0.ends.size ≡ (shape_of result.0.device).size) }
+    ensures story { (result.0.ends.story ≡ (steps_of result.0.device).items)
+        × (result.0.ends.size ≡ (shape_of result.0.device).size) }
     ensures device { fixed_of result.0.device ≡ fixed_of (opening_of begun.server.device) }
     ensures keeps { result.0.ends.keeps ≡ keeps_of begun.server }
 {

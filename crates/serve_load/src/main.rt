@@ -1,5 +1,5 @@
-//! `serve_load COUNT` has so many requests served on a disk in memory, one after another, by a server that keeps no history,
-//! and prints how many were sent.
+//! `serve_load COUNT` has so many requests served on a disk in memory, one after another, by a
+//! server that keeps no history, and prints how many were sent.
 #![tactic(auto)]
 
 use host_file::program_words;
@@ -17,8 +17,8 @@ fn main(rt: HostRuntime) -> ExitCode {
     }
 }
 
-// How many records were sent, as the first word asks; the second handle lets it wait. `None` where the word is no number, or
-// for want of memory.
+// How many records were sent, as the first word asks; the second handle lets it wait. `None` where
+// the word is no number, or for want of memory.
 fn sent_by_word<R: Wait>(rt: &HostRuntime, handle: &R) -> Option<u32> {
     let words = program_words(rt).ok()?;
     let records = words.first()?.as_str().parse::<u32>().ok()?;

@@ -6,29 +6,15 @@ use Rattle.std.specs.Option.{option_map_or}
 use Rattle.std.proofs.lemmas.Bool.Decides.{eqb_tells}
 use Rattle.std.proofs.lemmas.Option.{slice_get-get_or}
 use Rattle.atomic_table.specs.Seated.{TableId}
-use Rattle.host_group.specs.declared.seat.CellSeat.{CellSeat}
-use Rattle.host_group.specs.Seats.{IsRightOf, row, seat_cells}
-use Rattle.host_intake.specs.declared.entry.RecordEnd.{RecordEnd}
-use Rattle.host_intake.specs.declared.waiting.Waiting.{Waiting}
-use Rattle.host_intake.specs.Answers.{answer_owed}
-use Rattle.host_intake.specs.Entries.{Taking, landings, place_of, request_in, requests_of, takings}
-use Rattle.host_intake.specs.Intaken.{IsIntake}
-use Rattle.host_intake.specs.Members.{is_lander, member_at}
-use Rattle.host_intake.specs.Rights.{AreSettled, HasRight}
-use Rattle.host_intake.specs.State.{IntakeState}
-use Rattle.host_intake.specs.Told.{is_flying}
-use Rattle.host_intake.specs.Waits.{IsOfTaking, IsWaiting, is_waiting_at}
+use Rattle.host_group.specs.{CellSeat, IsRightOf, row, seat_cells}
+use Rattle.host_intake.specs.{RecordEnd, Waiting, answer_owed, Taking, landings, place_of, request_in, requests_of, takings, IsIntake, is_lander, member_at, AreSettled, HasRight, IntakeState, is_flying, IsOfTaking, IsRecordWaiting, is_waiting_at}
 use Rattle.host_intake.proofs.Flying.{own_flies}
 use Rattle.host_intake.proofs.Removing.{past_any}
-use Rattle.host_model.specs.Groups.{is_member}
-use Rattle.host_model.specs.Log.{request_at}
+use Rattle.host_model.specs.{is_member, request_at}
 use Rattle.host_record.specs.declared.request.Request.{Request}
-use Rattle.host_record.specs.Request.{request_of}
-use Rattle.host_rings.specs.declared.envelope.Envelope.{Envelope}
-use Rattle.host_rings.specs.declared.slip.Slip.{Slip}
-use Rattle.session_client.specs.declared.task.Task.{Task}
-use Rattle.session_client.specs.RightUsed.{HaveSettled}
-use Rattle.session_client.specs.Tasks.{IsToDo}
+use Rattle.host_record.specs.{request_of}
+use Rattle.host_rings.specs.{Envelope, Slip}
+use Rattle.session_client.specs.{Task, HaveSettled, IsToDo}
 use Rattle.session_client.proofs.Own.{request_taken}
 
 -- ---- the right
@@ -71,10 +57,10 @@ module _ (cells : TableId) (hand : ℕ) (s : IntakeState) (k : IsIntake s) (task
       step : (((w.envelope.index == task.envelope.index) ≡ true) × (w.envelope.index ≡ task.envelope.index)) ⊎ (((w.envelope.index == task.envelope.index) ≡ false) × (w.envelope.index ≡ task.envelope.index → ⊥)) → is_waiting_at task.envelope.index w ≡ false
       step (inr p) = p.0
       step (inl p) =
-          let found : MatchOption (slice_get (takings s.entries) task.envelope.index) ⊥ (λ (u : Taking). IsWaiting cells (takings s.entries) (landings s.entries) w u) =
-          subst (λ n. MatchOption (slice_get (takings s.entries) n) ⊥ (λ (u : Taking). IsWaiting cells (takings s.entries) (landings s.entries) w u)) p.1 of in
-          let here : IsWaiting cells (takings s.entries) (landings s.entries) w d.taking =
-          subst (λ (o : Option Taking). MatchOption o ⊥ (λ (u : Taking). IsWaiting cells (takings s.entries) (landings s.entries) w u)) d.own.at found in
+          let found : MatchOption (slice_get (takings s.entries) task.envelope.index) ⊥ (λ (u : Taking). IsRecordWaiting cells (takings s.entries) (landings s.entries) w u) =
+          subst (λ n. MatchOption (slice_get (takings s.entries) n) ⊥ (λ (u : Taking). IsRecordWaiting cells (takings s.entries) (landings s.entries) w u)) p.1 of in
+          let here : IsRecordWaiting cells (takings s.entries) (landings s.entries) w d.taking =
+          subst (λ (o : Option Taking). MatchOption o ⊥ (λ (u : Taking). IsRecordWaiting cells (takings s.entries) (landings s.entries) w u)) d.own.at found in
           absurd (let f : false ≡ true = sym d.own.stays ∙ here.waits in cc)
 
   pub none_waits : seat_cells s.cell_seat ≡ cells → list_any (is_waiting_at task.envelope.index) s.waiting ≡ false

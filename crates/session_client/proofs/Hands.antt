@@ -1,15 +1,12 @@
 -- A hand of a session stands at it, from one call to the next.
 use Rattle.std.proofs.Common.{◌≡◌, ℕ, Option, MatchOption, refl, sym, subst, ◌∙◌}
-use Rattle.host_group.specs.Seats.{cells_id}
-use Rattle.host_intake.specs.declared.plan.IntakePlan.{IntakePlan}
-use Rattle.host_memory.specs.declared.limits.MemoryPlan.{MemoryPlan}
-use Rattle.host_turn.specs.Seats.{IsOutside, IsSameSeat, book_id}
-use Rattle.host_turn.specs.declared.seat.BookSeat.{BookSeat}
+use Rattle.host_group.specs.{cells_id}
+use Rattle.host_intake.specs.{IntakePlan}
+use Rattle.host_memory.specs.{MemoryPlan}
+use Rattle.host_turn.specs.{IsOutside, IsSameSeat, book_id, BookSeat}
 use Rattle.atomic_table.specs.Seated.{TableId}
-use Rattle.host_session.specs.declared.hand.SessionHand.{SessionHand}
-use Rattle.host_session.specs.declared.shared.SessionShared.{SessionShared}
-use Rattle.host_session.specs.Plan.{IsHand, IsSeatIn, IsShared, SessionPlan}
-use Rattle.session_client.specs.Hands.{IsHandAt, IsSameHand}
+use Rattle.host_session.specs.{SessionHand, SessionShared, IsHand, IsSeatIn, IsShared, SessionPlan}
+use Rattle.session_client.specs.{IsHandAt, IsSameHand}
 
 pub hand_at : (p : SessionPlan) (shared : SessionShared) (pool : TableId × ℕ) (n : ℕ) (hand : SessionHand) → IsShared p shared → p.pool ≡ pool → IsHand p n hand → IsHandAt shared pool n hand
 hand_at p shared pool n hand s o h = record {

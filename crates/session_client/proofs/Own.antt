@@ -3,14 +3,12 @@ use Rattle.std.proofs.Common.{◌≡◌, ℕ, zero, suc, ◌+◌, ◌<◌, ◌==
 use Rattle.std.specs.Prelude.{slice_get, unwrap_or}
 use Rattle.std.specs.List.{cons_option, list_any}
 use Rattle.std.proofs.lemmas.List.Elements.{filter_map-append}
-use Rattle.host_turn.specs.History.{entries_of}
-use Rattle.host_turn.proofs.Histories.{entries-append}
-use Rattle.host_intake.specs.declared.entry.IntakeEntry.{IntakeEntry}
-use Rattle.host_intake.specs.declared.entry.IntakeEntry.TheVariants.{Took, Landed, Passed, Turned}
-use Rattle.host_intake.specs.Entries.{Taking, Landing, is_landing_of, landing_of, landings, maker_of, request_in, requests_of, taking_of, takings}
-use Rattle.host_intake.specs.Members.{member_at}
+use Rattle.host_log.specs.{entries_of}
+use Rattle.host_log.proofs.Histories.{entries-append}
+use Rattle.host_intake.specs.{IntakeEntry, Took, Landed, Passed, Turned, Taking, Landing, is_landing_of, landing_of, landings, maker_of, request_in, requests_of, taking_of, takings, member_at}
 use Rattle.host_intake.proofs.Admitting.{member_same}
-use Rattle.host_model.specs.Log.{request_at}
+use Rattle.host_model.specs.{request_at}
+use Rattle.host_log.proofs.Bools.{or_parts}
 
 -- ---- own landings
 
@@ -24,10 +22,6 @@ module _ (i hand : ℕ) where
   skipped : (x : IntakeEntry) (b : Bool) (xs : List IntakeEntry) → landing_of x ≡ None → ended (cond b (x ∷ xs) xs) ≡ ended xs
   skipped x true xs e = ap (λ (o : Option Landing). list_any (is_landing_of i) (cons_option o (landings xs))) e
   skipped x false xs e = refl
-
-  or_parts : (a b : Bool) → (a || b) ≡ false → (a ≡ false) × (b ≡ false)
-  or_parts true b e = absurd (cc)
-  or_parts false b e = (refl, e)
 
   -- where nobody told the end of record i, the hand didn't
   pub own_none : (fs : List IntakeEntry) → ended fs ≡ false → ended (own fs) ≡ false

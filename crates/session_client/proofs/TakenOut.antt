@@ -2,12 +2,10 @@
 use Rattle.std.proofs.Common.{◌≡◌, ℕ, List, [], ◌∷◌, ◌++◌, length, ap, subst, arith, length-append, append_assoc}
 use Rattle.std.specs.Prelude.{All}
 use Rattle.std.proofs.lemmas.List.Elements.{All-head, All-tail}
-use Rattle.host_frames.specs.declared.seat.PoolSeat.{PoolSeat}
-use Rattle.host_frames.specs.Seats.{IsNewSeat, seat_pool}
-use Rattle.host_rings.specs.Places.{EachPlace}
+use Rattle.host_frames.specs.{PoolSeat, IsNewSeat, seat_pool}
+use Rattle.host_rings.specs.{EachPlace}
 use Rattle.atomic_table.specs.Seated.{TableId}
-use Rattle.host_session.specs.declared.hand.SessionHand.{SessionHand}
-use Rattle.host_session.specs.Plan.{AreAllHands, IsHand, SessionPlan}
+use Rattle.host_session.specs.{SessionHand, AreAllHands, IsHand, SessionPlan}
 
 -- the hand that is taken out of a list of one is hand 0
 pub only_hand : (p : SessionPlan) (all rest : List SessionHand) (x : SessionHand) → AreAllHands p all → p.hands ≡ 1 → all ≡ rest ++ x ∷ [] → IsHand p 0 x

@@ -4,30 +4,25 @@ use Rattle.std.specs.Prelude.{slice_get}
 use Rattle.std.specs.List.{list_any}
 use Rattle.std.proofs.lemmas.Option.{slice_get_within}
 use Rattle.atomic_table.specs.Seated.{TableId}
-use Rattle.host_group.specs.declared.seat.CellSeat.{CellSeat}
-use Rattle.host_intake.specs.declared.entry.IntakeEntry.{IntakeEntry}
-use Rattle.host_intake.specs.Admissions.{entry_for}
-use Rattle.host_intake.specs.Entries.{Landing, Taking, is_landing_of, landing_of, landings, maker_of, place_of, requests_of, taking_of, takings}
-use Rattle.host_intake.specs.Members.{AreLanded, member_at}
-use Rattle.host_intake.specs.Rights.{HasRight}
+use Rattle.host_group.specs.{CellSeat}
+use Rattle.host_intake.specs.{IntakeEntry, taking_entry, Landing, Taking, is_landing_of, landing_of, landings, maker_of, place_of, requests_of, taking_of, takings, AreLanded, member_at, HasRight}
 use Rattle.host_intake.proofs.Admitting.{next_open}
-use Rattle.host_intake.proofs.Judging.{get_last}
-use Rattle.host_rings.specs.declared.envelope.Envelope.{Envelope}
+use Rattle.host_log.proofs.Places.{get_last}
+use Rattle.host_rings.specs.{Envelope}
 use Rattle.host_memory.proofs.Pushed.{filter_map_add, filter_map_skip}
 use mathlib.Core.List.{IsPrefix}
-use Rattle.host_turn.specs.History.{Adds, Continues, entries_of}
-use Rattle.session_client.specs.declared.task.Task.{Task}
-use Rattle.session_client.specs.Tasks.{IsOwnOpen, IsToDo}
+use Rattle.host_log.specs.{Adds, Continues, entries_of}
+use Rattle.session_client.specs.{Task, IsOwnOpen, IsToDo}
 use Rattle.session_client.proofs.Own.{get_front, member_front, own_none, own_same, takings_append}
 
 -- ---- as it is taken
 
-module _ (hand : ℕ) (es fs : List IntakeEntry) (t : Taking) (k : AreLanded (takings es) (landings es)) (next : t.envelope.index ≡ length (takings es)) (by : t.hand ≡ hand) (stays : t.waits ≡ false) (now : fs ≡ es ++ entry_for t ∷ []) where
+module _ (hand : ℕ) (es fs : List IntakeEntry) (t : Taking) (k : AreLanded (takings es) (landings es)) (next : t.envelope.index ≡ length (takings es)) (by : t.hand ≡ hand) (stays : t.waits ≡ false) (now : fs ≡ es ++ taking_entry t ∷ []) where
   taken_more : takings fs ≡ takings es ++ t ∷ []
-  taken_more = ap takings now ∙ filter_map_add taking_of es (entry_for t) t refl
+  taken_more = ap takings now ∙ filter_map_add taking_of es (taking_entry t) t refl
 
   landed_same : landings fs ≡ landings es
-  landed_same = ap landings now ∙ filter_map_skip landing_of es (entry_for t) refl
+  landed_same = ap landings now ∙ filter_map_skip landing_of es (taking_entry t) refl
 
   none : list_any (is_landing_of t.envelope.index) (landings fs) ≡ false
   none = ap (λ (ls : List Landing). list_any (is_landing_of t.envelope.index) ls) landed_same
@@ -90,8 +85,8 @@ entered_to_do cells hand n es fs story same later is task d =
     subst (λ (xs : List IntakeEntry). IsToDo cells hand xs task) (sym is) (after_others cells hand es fs (subst (λ m. Continues maker_of m es fs) same later) task d)
 
 -- no record ended as one was taken
-pub landings_taken : (es fs : List IntakeEntry) (t : Taking) → fs ≡ es ++ entry_for t ∷ [] → landings fs ≡ landings es
-landings_taken es fs t now = ap landings now ∙ filter_map_skip landing_of es (entry_for t) refl
+pub landings_taken : (es fs : List IntakeEntry) (t : Taking) → fs ≡ es ++ taking_entry t ∷ [] → landings fs ≡ landings es
+landings_taken es fs t now = ap landings now ∙ filter_map_skip landing_of es (taking_entry t) refl
 
 -- the same record with another end
 pub ended_to_do : (cells : TableId) (hand : ℕ) (es : List IntakeEntry) (task ended : Task) → IsToDo cells hand es task → (ended.envelope ≡ task.envelope) × (ended.right ≡ task.right) → IsToDo cells hand es ended

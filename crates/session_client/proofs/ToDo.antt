@@ -2,27 +2,19 @@
 use Rattle.std.proofs.Common.{◌≡◌, ℕ, Bool, true, false, not, ◌==◌, ◌&&◌, cond, Option, refl, sym, ap, subst, ◌∙◌}
 use Rattle.std.specs.Prelude.{is_some}
 use Rattle.atomic_table.specs.Seated.{TableId}
-use Rattle.host_frames.specs.Seats.{SeenPages}
-use Rattle.host_group.specs.declared.seat.CellSeat.{CellSeat}
-use Rattle.host_group.specs.Seats.{seat_cells}
-use Rattle.host_intake.specs.Admissions.{HasTaken, IsAdmitted, IsRightOut}
-use Rattle.host_intake.specs.Entries.{Taking, landings, request_in, takings}
-use Rattle.host_intake.specs.Members.{AreLanded}
-use Rattle.host_intake.specs.Rights.{HasRight}
-use Rattle.host_intake.specs.State.{IntakeState, MemorySeat}
-use Rattle.host_intake.specs.Takings.{judged_on}
-use Rattle.host_memory.specs.Pins.{pins_on}
-use Rattle.host_turn.specs.Seats.{seen_by}
+use Rattle.host_frames.specs.{SeenPages}
+use Rattle.host_group.specs.{CellSeat, seat_cells}
+use Rattle.host_intake.specs.{HasTaken, IsAdmitted, IsRightOut, Taking, landings, request_in, takings, AreLanded, HasRight, IntakeState, MemorySeat, judged_on}
+use Rattle.host_memory.specs.{pins_on}
+use Rattle.host_turn.specs.{seen_by}
 use Rattle.host_model.specs.declared.verdict.Verdict.{Verdict}
-use Rattle.host_model.specs.declared.verdict.Verdict.TheVariants.{Refused}
-use Rattle.host_model.specs.Verdict.{is_accepted}
+use Rattle.host_model.specs.{Refused, is_accepted}
 use Rattle.host_record.specs.declared.status.Status.{Status}
 use Rattle.host_record.specs.declared.status.Status.TheVariants as status
-use Rattle.host_record.specs.Command.{is_close, opcode}
-use Rattle.host_record.specs.Request.{request_of}
-use Rattle.host_rings.specs.declared.envelope.Envelope.{Envelope}
+use Rattle.host_record.specs.{is_close, opcode, request_of}
+use Rattle.host_rings.specs.{Envelope}
 use Rattle.session_client.specs.declared.task.Taken.TheVariants as taken
-use Rattle.session_client.specs.Tasks.{IsOwnOpen, IsTakenToDo, IsToDo, taken_with}
+use Rattle.session_client.specs.{IsOwnOpen, IsTakenToDo, IsToDo, taken_with}
 use Rattle.session_client.proofs.Tasks.{own_taken}
 
 module _ (cells : TableId) (hand : ℕ) (old new : IntakeState) (seat : MemorySeat) (e : Envelope) (k : AreLanded (takings old.entries) (landings old.entries)) (same : seat_cells old.cell_seat ≡ cells) (t : Taking) (h : HasTaken old new seat e t) (by : t.hand ≡ hand) where

@@ -1,5 +1,6 @@
 -- A record that a hand took and has yet to end.
-use Rattle.std.specs.Prelude.{◌≡◌, ℕ, Bool, false, not, ◌&&◌, if◌then◌else◌, List, slice_get, Option, Some}
+use Rattle.std.specs.Prelude.{◌≡◌, ℕ, Bool, false, not, ◌&&◌, if◌then◌else◌, List, slice_get}
+use Rattle.std.specs.Prelude.{Option, Some}
 use Rattle.std.specs.List.{list_any}
 use Rattle.atomic_table.specs.Seated.{TableId}
 use Rattle.host_group.specs.declared.seat.CellSeat.{CellSeat}
@@ -10,7 +11,7 @@ use Rattle.host_rings.specs.declared.envelope.Envelope.{Envelope}
 use Rattle.host_record.specs.declared.status.Status.TheVariants as status
 use Rattle.host_record.specs.Command.{is_close, opcode}
 use Rattle.host_record.specs.Request.{request_of}
-use Rattle.host_turn.specs.History.{entries_of}
+use Rattle.host_log.specs.History.{entries_of}
 use Rattle.session_client.specs.declared.task.Taken.{Taken}
 use Rattle.session_client.specs.declared.task.Taken.TheVariants as taken
 use Rattle.session_client.specs.declared.task.Task.{Task}
@@ -34,6 +35,9 @@ abbrev pub IsTakenToDo : TableId → ℕ → List IntakeEntry → Taken → Type
 IsTakenToDo cells hand es (taken.ToDo task) = IsToDo cells hand es task
 IsTakenToDo cells hand es _ = Unit {0}
 
--- What becomes of an accepted record: a close that comes without pages waits, and every other is to end well.
+-- What becomes of an accepted record: a close that comes without pages waits, and every other is to
+-- end well.
 abbrev pub taken_with : Envelope → Bool → Option CellSeat → Taken
-taken_with e pages right = if is_close (opcode (request_of e.bytes)) && not pages then taken.Waits else taken.ToDo (record { envelope = e; outcome = status.Ok; right = right })
+taken_with e pages right =
+    if is_close (opcode (request_of e.bytes)) && not pages then taken.Waits
+    else taken.ToDo (record { envelope = e; outcome = status.Ok; right = right })

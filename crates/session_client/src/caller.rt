@@ -10,7 +10,8 @@ use host_session::{AttachError, ClientEnd, SendError, SessionShared};
 use std::alloc::Global;
 use std::sync::Wait;
 
-/// A client's end of a session that may give all ids, and its seat at the pool. A call that the contracts of `host_session` don't allow isn't made: its answer is `None`, or false.
+/// A client's end of a session that may give all ids, and its seat at the pool. A call that the
+/// contracts of `host_session` don't allow isn't made: its answer is `None`, or false.
 #[derive(Drop)]
 pub struct Caller {
     pub(crate) client: ClientEnd,

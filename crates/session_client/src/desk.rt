@@ -103,8 +103,11 @@ impl Desk {
     /// The hand takes the next record.
     pub fn take<R: Wait>(&mut self, rt: &R) -> Taken
         ensures shared { self.new.shared ≡ self.old.shared }
-        ensures task { IsTakenToDo (cells_id self.new.shared.cells) 0 (seen_by self.new.hand.intake) result }
-        ensures still { (task : Task) → IsToDo (cells_id self.old.shared.cells) 0 (seen_by self.old.hand.intake) task → IsToDo (cells_id self.new.shared.cells) 0 (seen_by self.new.hand.intake) task }
+        ensures task { IsTakenToDo (cells_id self.new.shared.cells) 0 (seen_by self.new.hand.intake)
+            result }
+        ensures still { (task : Task)
+            → IsToDo (cells_id self.old.shared.cells) 0 (seen_by self.old.hand.intake) task
+            → IsToDo (cells_id self.new.shared.cells) 0 (seen_by self.new.hand.intake) task }
     {
         take(
             rt,

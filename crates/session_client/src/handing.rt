@@ -2,8 +2,8 @@
 ghost use Rattle.std.specs.Prelude.{◌≡◌};
 ghost use Rattle.host_frames.specs.Seats.{pool_id};
 ghost use Rattle.host_intake.specs.Entries.{maker_of};
-ghost use Rattle.host_intake.specs.State.{plan_of};
-ghost use Rattle.host_turn.specs.History.{Adds};
+ghost use Rattle.host_intake.specs.State.{plan_of_intake};
+ghost use Rattle.host_log.specs.History.{Adds};
 ghost use Rattle.session_client.specs.Hands.{IsHandAt, IsSameHand};
 
 use host_frames::Pool;
@@ -33,7 +33,7 @@ pub fn hand_on<R: Wait>(
 // The same within the turn.
 fn pass_next<R: Wait>(rt: &R, intake: &mut Intake, sender: &mut SlipSender, number: u32) -> bool
     ensures sender { (sender.new.ring ≡ sender.old.ring) × (sender.new.number ≡ sender.old.number) }
-    ensures plan { plan_of intake.new ≡ plan_of intake.old }
+    ensures plan { plan_of_intake intake.new ≡ plan_of_intake intake.old }
     ensures adds { Adds maker_of number intake.old.entries intake.new.entries }
 {
     let Some(slip) = intake.next_kept() else {

@@ -20,7 +20,8 @@ impl Judge {
     /// The same record, with the end that the judge gives it.
     pub fn ended(&mut self, task: Task) -> Task
         ensures same { (result.envelope ≡ task.envelope) × (result.right ≡ task.right) }
-        ensures end { IsEndBy self.old self.new (request_of task.envelope.bytes) task.outcome result.outcome }
+        ensures end { IsEndBy self.old self.new (request_of task.envelope.bytes) task.outcome
+            result.outcome }
     {
         match self {
             Judge::Intake => task,

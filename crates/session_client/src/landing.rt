@@ -15,7 +15,8 @@ use host_rings::{Slip, SlipSender};
 use host_session::{SessionHand, SessionShared};
 use std::sync::Wait;
 
-/// Settles a record, pushes the answer that this makes due, and tells that the record landed. Where the ring is full the answer is kept. Tells whether one was pushed.
+/// Settles a record, pushes the answer that this makes due, and tells that the record landed. Where
+/// the ring is full the answer is kept. Tells whether one was pushed.
 pub fn land<R: Wait>(
     rt: &R,
     shared: &SessionShared,

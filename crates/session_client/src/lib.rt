@@ -2,7 +2,8 @@
 //!
 //! - `take`, `land` and `hand_on` are the steps of a hand, `go_round` one round of them.
 //! - `Caller` is a client with its seat at the pool, `Desk` a session on one thread.
-//! - `run_pair` plays a session with its client in one thread and its hand in another. The hand ends each record as the plain judge says (`Judge`, `PlainList`).
+//! - `run_pair` plays a session with its client in one thread and its hand in another. The hand
+//!   ends each record as the plain judge says (`Judge`, `PlainList`).
 #![tactic(auto)]
 
 mod caller;

@@ -67,7 +67,8 @@ pub fn open_desk(alloc: Global, sizes: Sizes) -> Result<Desk, Oom>
     })
 }
 
-/// What a session leaves that keeps its histories: its log, the rows of its records and the history of its buffers.
+/// What a session leaves that keeps its histories: its log, the rows of its records and the history
+/// of its buffers.
 pub type Left = (Events, TakenRows, MemEntries);
 
 /// Ends a session that is closed.

@@ -21,7 +21,8 @@ use std::sync::Wait;
 use std::thread;
 use std::thread::Threads;
 
-/// Plays a session: its client does these things and ends it so, while a hand serves it in a thread of its own. The hand ends each record as the plain judge says.
+/// Plays a session: its client does these things and ends it so, while a hand serves it in a thread
+/// of its own. The hand ends each record as the plain judge says.
 pub fn run_pair<R: Threads + Wait + Sync>(
     rt: &R,
     alloc: Global,
@@ -84,12 +85,15 @@ fn act_both<R: Threads + Wait + Sync>(
     let (hand, caller) = thread::join(
         rt,
         || -> SessionHand
-            requires { IsHandAt shared.now (pool_id pool.now) 0 hand × (seat_pool seat ≡ pool_id pool.now) }
+            requires { IsHandAt shared.now (pool_id pool.now) 0 hand
+                × (seat_pool seat ≡ pool_id pool.now) }
             ensures { IsSameHand hand result }
         { serve(rt, shared, pool, hand, seat, 0, judge) },
         || -> Caller
-            requires { IsShared caller.client.plan shared.now × (caller.client.plan.pool ≡ pool_id pool.now) }
-            ensures { IsShared result.client.plan shared.entry.now × (result.client.plan ≡ caller.client.plan) × (result.client.closed ≡ true) }
+            requires { IsShared caller.client.plan shared.now
+                × (caller.client.plan.pool ≡ pool_id pool.now) }
+            ensures { IsShared result.client.plan shared.entry.now
+                × (result.client.plan ≡ caller.client.plan) × (result.client.closed ≡ true) }
         { play(rt, alloc, shared, pool, caller, deeds, how) },
     );
     (caller, hand)

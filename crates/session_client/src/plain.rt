@@ -1,6 +1,7 @@
 //! The plain list of what a hand took, by which the plain judge has each record end.
 ghost use Rattle.std.specs.Prelude.{◌≡◌, [], ◌∷◌, ◌++◌, Some, IfOk, OnOk, IfSome, OnSome};
-ghost use Rattle.session_client.specs.Plain.{IsPlainEndOr, end_under, log_of, sent_as, verdict_next};
+ghost use Rattle.session_client.specs.Plain.{IsPlainEndOr, end_under, log_of, sent_as};
+ghost use Rattle.session_client.specs.Plain.{verdict_next};
 
 use crate::deed::Deed;
 use host_block::Range;
@@ -26,7 +27,8 @@ impl PlainList {
         records: u32,
         deeds: &[Deed],
     ) -> Result<PlainList, AllocError>
-        ensures log { IfOk result (λ list. (list.part ≡ part) × (list.log.items ≡ log_of records 0 0 deeds.now)) }
+        ensures log { IfOk result
+            (λ list. (list.part ≡ part) × (list.log.items ≡ log_of records 0 0 deeds.now)) }
         ensures taken { IfOk result (λ list. list.taken.items ≡ []) }
     {
         let mut log = Vec::new(alloc);
@@ -40,7 +42,8 @@ impl PlainList {
         })
     }
 
-    /// Takes note of a record, and tells how it ends by the plain verdict on it. For want of memory that is `NoMemory`, which no verdict gives.
+    /// Takes note of a record, and tells how it ends by the plain verdict on it. For want of memory
+    /// that is `NoMemory`, which no verdict gives.
     pub fn end_of(&mut self, request: Request) -> Status
         ensures { IsPlainEndOr self.old self.new request result }
     {
@@ -52,8 +55,10 @@ impl PlainList {
 
     // Takes note of a record, and gives the plain verdict on it; `None` for want of memory.
     fn verdict_on(&mut self, request: Request) -> Option<Verdict>
-        ensures verdict { IfSome result (λ v. verdict_next self.old.log.items self.old.part self.old.taken.items request ≡ Some v) }
-        ensures noted { OnSome result (self.new.taken.items ≡ self.old.taken.items ++ request ∷ []) }
+        ensures verdict { IfSome result (λ v.
+            verdict_next self.old.log.items self.old.part self.old.taken.items request ≡ Some v) }
+        ensures noted { OnSome result
+            (self.new.taken.items ≡ self.old.taken.items ++ request ∷ []) }
         ensures log { (self.new.log ≡ self.old.log) × (self.new.part ≡ self.old.part) }
     {
         let before = self.taken.len();
@@ -89,7 +94,8 @@ fn sent_as(i: u32, request: &Request) -> Event
     }
 }
 
-// Adds what a client that may send so many records logs of these things, after it was given so many buffers and sent so many records.
+// Adds what a client that may send so many records logs of these things, after it was given so many
+// buffers and sent so many records.
 fn tell(
     log: &mut Vec<Event>,
     records: u32,

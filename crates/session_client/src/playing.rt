@@ -12,7 +12,8 @@ use std::alloc::Global;
 use std::sync::Wait;
 use std::thread;
 
-/// The client does these things, one after the other, and ends the session so. It waits until the session is closed.
+/// The client does these things, one after the other, and ends the session so. It waits until the
+/// session is closed.
 pub fn play<R: Wait>(
     rt: &R,
     alloc: Global,

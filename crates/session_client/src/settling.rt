@@ -9,7 +9,8 @@ use host_intake::RecordEnd;
 use host_record::{Request, Response};
 use host_rings::Slip;
 
-/// Uses the right of a member, where there is one, and tells the answer that the record's end makes due.
+/// Uses the right of a member, where there is one, and tells the answer that the record's end makes
+/// due.
 pub fn settled(
     cells: &Cells,
     request: &Request,

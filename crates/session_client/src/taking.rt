@@ -3,11 +3,12 @@ ghost use Rattle.std.specs.Prelude.{◌≡◌, MatchOption, is_some};
 ghost use Rattle.host_frames.specs.Seats.{pages_pool, pool_id, seat_pool};
 ghost use Rattle.host_group.specs.Seats.{cells_id, seat_cells};
 ghost use Rattle.host_intake.specs.Entries.{landings, maker_of};
-ghost use Rattle.host_intake.specs.State.{plan_of};
+ghost use Rattle.host_intake.specs.State.{plan_of_intake};
 ghost use Rattle.host_record.specs.Command.{is_close, opcode};
 ghost use Rattle.host_record.specs.Request.{request_of};
-ghost use Rattle.host_turn.specs.History.{Adds};
-ghost use Rattle.host_turn.specs.Seats.{IsOutside, IsSameSeat, IsSeatOutside, book_id, fixed_part, seat_book, seen_by};
+ghost use Rattle.host_log.specs.History.{Adds};
+ghost use Rattle.host_turn.specs.Seats.{IsOutside, IsSameSeat, IsSeatOutside, book_id, fixed_part};
+ghost use Rattle.host_turn.specs.Seats.{seat_book, seen_by};
 ghost use Rattle.session_client.specs.Hands.{IsHandAt, IsSameHand};
 ghost use Rattle.session_client.specs.Tasks.{IsTakenToDo, IsToDo, taken_with};
 ghost use Rattle.session_client.specs.declared.task.Task.{Task};
@@ -37,7 +38,9 @@ pub fn take<R: Wait>(
     ensures hand { IsSameHand hand.old hand.new }
     ensures seat { seat_pool seat.new ≡ seat_pool seat.old }
     ensures task { IsTakenToDo (cells_id shared.now.cells) number (seen_by hand.new.intake) result }
-    ensures still { (task : Task) → IsToDo (cells_id shared.now.cells) number (seen_by hand.old.intake) task → IsToDo (cells_id shared.now.cells) number (seen_by hand.new.intake) task }
+    ensures still { (task : Task)
+        → IsToDo (cells_id shared.now.cells) number (seen_by hand.old.intake) task
+        → IsToDo (cells_id shared.now.cells) number (seen_by hand.new.intake) task }
 {
     let mut intake = shared.intake.enter(rt, &mut hand.intake);
     let taken = take_in_turn(
@@ -72,7 +75,7 @@ fn take_in_turn<R: Wait>(
     ensures seat { seat_pool seat.new ≡ seat_pool seat.old }
     ensures task { IsTakenToDo (cells_id shared.now.cells) number intake.new.entries result }
     ensures landings { landings intake.new.entries ≡ landings intake.old.entries }
-    ensures plan { plan_of intake.new ≡ plan_of intake.old }
+    ensures plan { plan_of_intake intake.new ≡ plan_of_intake intake.old }
     ensures adds { Adds maker_of number intake.old.entries intake.new.entries }
 {
     intake.vouch();

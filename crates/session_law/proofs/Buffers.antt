@@ -1,27 +1,16 @@
 -- What the history of a session's buffers has, by the two ends of the session alone.
 use Rattle.std.proofs.Common.{◌≡◌, ℕ, suc, ◌==◌, Bool, true, false, nat_eq, nat_le, cond, IsTrue, List, [], ◌∷◌, filter, filter_map, length, refl, sym, ap, subst, ◌∙◌, arith}
-use Rattle.std.specs.Bool.{then_some}
-use Rattle.std.specs.List.{cons_option, range_with_len}
+use Rattle.std.specs.List.{range_with_len}
 use Rattle.std.proofs.lemmas.Bool.{le-leb}
-use Rattle.host_memory.specs.Held.{attachment_by, is_given_by}
-use Rattle.host_memory.specs.State.{events}
-use Rattle.host_model.specs.declared.memory.MemEntry.{MemEntry}
-use Rattle.host_model.specs.declared.memory.MemEvent.{MemEvent}
-use Rattle.host_model.specs.declared.memory.MemEvent.TheVariants.{Attach, Release}
-use Rattle.host_model.specs.ClientEntries.{is_client, told}
-use Rattle.host_model.specs.Lists.{all_with_before, count, map_with_before, same_counts, within_counts}
-use Rattle.host_model.specs.Log.{given}
-use Rattle.host_model.specs.Pages.{found_by, lifts_page, shown_bytes}
-use Rattle.host_model.specs.Releases.{comes_before_release, is_release_of, pins_before_close, released}
+use Rattle.host_memory.specs.{events}
+use Rattle.host_model.specs.{MemEntry, MemEvent, Release, is_client, told, all_with_before, count, map_with_before, same_counts, within_counts, given, found_by, lifts_page, shown_bytes, comes_before_release, is_release_of, pins_before_close, released}
 use Rattle.host_model.specs.Session.{Session}
 use Rattle.host_model.proofs.ListTests.{all_pass, and-from}
-use Rattle.host_session.specs.declared.hand.SessionHand.{SessionHand}
-use Rattle.host_session.specs.Client.{ClientState}
-use Rattle.host_session.specs.Counting.{times}
-use Rattle.session_law.specs.Buffers.{AreBuffersTold, BuffersTold}
-use Rattle.session_law.specs.Gathered.{IsGathered}
+use Rattle.host_session.specs.{SessionHand, ClientState, times}
+use Rattle.session_law.specs.{AreBuffersTold, BuffersTold, IsSessionGathered}
 use Rattle.session_law.proofs.Gathered.{log_same}
 use Rattle.session_law.proofs.Lending.{attached_times, eq_flip}
+use Rattle.host_memory.proofs.Remaining.{given_times}
 
 -- ---- counts
 
@@ -37,23 +26,13 @@ released_times v (Release id ∷ h) = step (id == v) (nat_eq v id) (eq_flip id v
     step false false e g = g
 released_times v (_ ∷ h) = released_times v h
 
-pub given_times : (v : ℕ) (h : List MemEvent) → count (is_given_by v) h ≡ length (filter_map (attachment_by v) h)
-given_times v [] = refl
-given_times v (Attach id pages from ∷ h) = step (id == v) (given_times v h)
-  where
-    step : (b : Bool) → count (is_given_by v) h ≡ length (filter_map (attachment_by v) h)
-        → length (cond b (Attach id pages from ∷ filter (is_given_by v) h) (filter (is_given_by v) h)) ≡ length (cons_option (then_some b (record { pages = pages; from = from })) (filter_map (attachment_by v) h))
-    step true g = ap suc g
-    step false g = g
-given_times v (_ ∷ h) = given_times v h
-
 same_times : (xs ys : List ℕ) → ((v : ℕ) → times v xs ≡ times v ys) → same_counts nat_eq xs ys ≡ true
 same_times xs ys e =
     and-from (within_counts nat_eq xs ys) (within_counts nat_eq ys xs)
     (all_pass (λ x. nat_le (count (nat_eq x) xs) (count (nat_eq x) ys)) xs (λ x _. le-leb (times x xs) (times x ys) (let f = e x in omega arith)))
     (all_pass (λ x. nat_le (count (nat_eq x) ys) (count (nat_eq x) xs)) ys (λ x _. le-leb (times x ys) (times x xs) (let f = e x in omega arith)))
 
-module _ (client : ClientState) (hands : List SessionHand) (h : List MemEntry) (s : Session) (g : IsGathered client hands h s) where
+module _ (client : ClientState) (hands : List SessionHand) (h : List MemEntry) (s : Session) (g : IsSessionGathered client hands h s) where
   once : same_counts nat_eq (released s.memory) (given s.log) ≡ true
   once = same_times (released s.memory) (given s.log) (λ v.
       ap (λ m. times v (released m)) g.memory

@@ -7,19 +7,14 @@ use Rattle.std.proofs.lemmas.List.Quantifiers.{position-Some}
 use Rattle.std.proofs.lemmas.Option.{get_or_from_slice_get}
 use Rattle.host_block.specs.declared.range.Range.{Range}
 use Rattle.host_block.proofs.Places.{within}
-use Rattle.host_record.specs.declared.opcode.Opcode.{Opcode}
-use Rattle.host_record.specs.declared.opcode.Opcode.TheVariants.{Read, Write, Flush, Trim, Close}
+use Rattle.host_record.specs.{Opcode, Read, Write, Flush, Trim, Close, is_close, names_buffer, opcode, request_of}
 use Rattle.host_record.specs.declared.request.Request.{Request}
-use Rattle.host_record.specs.Command.{is_close, names_buffer, opcode}
-use Rattle.host_record.specs.Request.{request_of}
 use Rattle.host_model.specs.declared.verdict.Verdict.{Verdict}
-use Rattle.host_model.specs.declared.verdict.Verdict.TheVariants.{Accepted, Refused}
-use Rattle.host_model.specs.Log.{request_at}
-use Rattle.host_model.specs.Verdict.{close_in, closes, is_accepted, is_closed, judged, verdict_after, verdicts_on}
+use Rattle.host_model.specs.{Accepted, Refused, request_at, close_in, closes, is_accepted, is_closed, judged, verdict_after, verdicts_on}
 use Rattle.host_model.proofs.Growth.{length-verdicts_on, verdict_at}
 use Rattle.host_intake.proofs.Accepting.{accepted_attached}
 use Rattle.host_intake.proofs.Leaving.{position_none}
-use Rattle.session_law.proofs.Places.{any_here}
+use Rattle.host_log.proofs.Places.{any_here}
 
 -- ---- pairs
 

@@ -6,17 +6,11 @@ use Rattle.std.specs.Option.{option_map}
 use Rattle.std.proofs.lemmas.List.Elements.{filter-append}
 use Rattle.std.proofs.lemmas.Option.{slice_get-map}
 use Rattle.host_block.proofs.Places.{from_take, within}
-use Rattle.host_model.specs.declared.event.Event.{Event}
-use Rattle.host_model.specs.declared.event.Event.TheVariants.{Attached, NotAttached, Filled, Shown, Sent, Received, Drained, Aborted}
-use Rattle.host_model.specs.declared.memory.MemEntry.{MemEntry}
-use Rattle.host_model.specs.Taking.{is_end}
-use Rattle.host_record.specs.declared.finish.Finish.{Finish}
-use Rattle.host_record.specs.declared.finish.Finish.TheVariants.{Drain, Abort}
-use Rattle.host_session.specs.declared.fronts.Fronts.{Fronts}
-use Rattle.host_session.specs.Acts.{Act, IsAct, before_drained, fronts_after, is_drain_event, is_drained, log_of}
-use Rattle.host_session.specs.Client.{AreWithin, ends_logged}
+use Rattle.host_model.specs.{Event, Attached, NotAttached, Filled, Shown, Sent, Received, Drained, Aborted, MemEntry, is_end}
+use Rattle.host_record.specs.{Finish, Drain, Abort}
+use Rattle.host_session.specs.{Fronts, Act, IsAct, before_drained, fronts_after, is_drain_event, is_drain_act, log_of, AreWithin, ends_logged}
 use Rattle.session_law.proofs.Fronts.{after_act, known_after}
-use Rattle.session_law.proofs.Places.{in_filter, some_at}
+use Rattle.host_log.proofs.Places.{some_at, in_filter}
 use Rattle.session_law.proofs.Taken.{nothing_of}
 
 drain_is : (e : Event) → is_drain_event e ≡ true → e ≡ Drained
@@ -64,7 +58,7 @@ not_there log Drain only ends j k e at bt no_end le =
 
 -- ---- the acts before it
 
-first_there : (acts : List Act) (k : ℕ) (a : Act) → slice_get acts k ≡ Some a → ((j : ℕ) (b : Act) → slice_get acts j ≡ Some b → j ≤ k → is_drained b ≡ false) → slice_get (before_drained acts) k ≡ Some a
+first_there : (acts : List Act) (k : ℕ) (a : Act) → slice_get acts k ≡ Some a → ((j : ℕ) (b : Act) → slice_get acts j ≡ Some b → j ≤ k → is_drain_act b ≡ false) → slice_get (before_drained acts) k ≡ Some a
 first_there [] zero a at none = absurd (cc)
 first_there [] (suc k) a at none = absurd (cc)
 first_there (x ∷ acts) zero a at none = ap (λ b. slice_get (cond b [] (x ∷ before_drained acts)) 0) (none 0 x refl (omega arith)) ∙ at
@@ -72,7 +66,7 @@ first_there (x ∷ acts) (suc k) a at none = ap (λ b. slice_get (cond b [] (x �
 
 first_ones : (acts : List Act) → before_drained acts ≡ take (length (before_drained acts)) acts
 first_ones [] = refl
-first_ones (x ∷ acts) = step (is_drained x) (first_ones acts)
+first_ones (x ∷ acts) = step (is_drain_act x) (first_ones acts)
   where
     step : (b : Bool) → before_drained acts ≡ take (length (before_drained acts)) acts → cond b [] (x ∷ before_drained acts) ≡ take (length (cond b [] (x ∷ before_drained acts))) (x ∷ acts)
     step true e = refl
@@ -93,12 +87,12 @@ module _ (h : List MemEntry) (acts : List Act) (each : (n : ℕ) (a : Act) → s
   pub before_drain : (f : Finish) → filter is_end (log_of acts) ≡ ends_logged (Some f) true → (f ≡ Drain → (before : List Event) × (log_of acts ≡ before ++ Drained ∷ []))
       → (k : ℕ) (a : Act) → slice_get acts k ≡ Some a → is_end a.event ≡ false → AreWithin a.fronts (fronts_after (before_drained acts))
   before_drain f only ends k a at no_end =
-      let there : slice_get (before_drained acts) k ≡ Some a = first_there acts k a at (λ j b bt le. none j b bt le (is_drained b) refl) in
+      let there : slice_get (before_drained acts) k ≡ Some a = first_there acts k a at (λ j b bt le. none j b bt le (is_drain_act b) refl) in
       last_within k (length (before_drained acts)) a at refl (within (before_drained acts) k a there)
     where
       event_at : (j : ℕ) (b : Act) → slice_get acts j ≡ Some b → slice_get (log_of acts) j ≡ Some b.event
       event_at j b bt = slice_get-map (λ (x : Act). x.event) acts j ∙ ap (option_map (λ (x : Act). x.event)) bt
 
-      none : (j : ℕ) (b : Act) → slice_get acts j ≡ Some b → j ≤ k → (d : Bool) → is_drained b ≡ d → d ≡ false
+      none : (j : ℕ) (b : Act) → slice_get acts j ≡ Some b → j ≤ k → (d : Bool) → is_drain_act b ≡ d → d ≡ false
       none j b bt le false e = refl
       none j b bt le true e = absurd (not_there (log_of acts) f only ends j k a.event (event_at j b bt ∙ ap Some (drain_is b.event e)) (event_at k a at) no_end le)

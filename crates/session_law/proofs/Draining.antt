@@ -3,29 +3,18 @@ use Rattle.std.proofs.Common.{◌≡◌, suc, ◌+◌, ◌≤◌, true, nat_lt, 
 use Rattle.std.specs.List.{list_all, slice_get}
 use Rattle.std.proofs.lemmas.List.{length-map, take-map, take_at}
 use Rattle.std.proofs.lemmas.List.Elements.{filter_map-append}
-use Rattle.host_record.specs.Request.{request_of}
-use Rattle.host_model.specs.declared.event.Event.{Event}
-use Rattle.host_model.specs.declared.event.Event.TheVariants.{Attached, NotAttached, Filled, Shown, Sent, Received, Drained, Aborted}
-use Rattle.host_model.specs.declared.memory.MemEntry.{MemEntry}
-use Rattle.host_model.specs.Answers.{answer_bytes}
-use Rattle.host_model.specs.Groups.{owed}
-use Rattle.host_model.specs.Log.{received, received_bytes, requests, sent, sent_bytes}
+use Rattle.host_record.specs.{request_of}
+use Rattle.host_model.specs.{Event, Attached, NotAttached, Filled, Shown, Sent, Received, Drained, Aborted, MemEntry, answer_bytes, owed, received, received_bytes, requests, sent, sent_bytes}
 use Rattle.host_model.specs.Session.{Session}
-use Rattle.host_session.specs.declared.hand.SessionHand.{SessionHand}
-use Rattle.host_session.specs.Acts.{Act, IsEventAfter, log_of}
-use Rattle.host_session.specs.Client.{ClientState}
-use Rattle.host_session.specs.Counting.{due_records}
-use Rattle.host_session.specs.Endings.{IsDrainedLog, is_received}
+use Rattle.host_session.specs.{SessionHand, Act, IsEventAfter, log_of, ClientState, due_records, IsDrainedLog, is_receipt}
 use Rattle.host_session.proofs.Counting.{counting_tells}
-use Rattle.session_law.specs.Draining.{DrainsComeLast}
-use Rattle.session_law.specs.Gathered.{IsGathered}
-use Rattle.session_law.specs.Handing.{PushedAsTold}
+use Rattle.session_law.specs.{DrainsComeLast, IsSessionGathered, PushedAsTold}
 use Rattle.session_law.proofs.Due.{acts_of, answered, are_answered, filter_few}
 use Rattle.session_law.proofs.Finding.{from_map}
 use Rattle.session_law.proofs.Gathered.{closed, course, log_same}
 
 -- answers send nothing, and each is received
-answers_only : (rest : List Event) → list_all is_received rest ≡ true → (sent rest ≡ []) × (length (received rest) ≡ length rest)
+answers_only : (rest : List Event) → list_all is_receipt rest ≡ true → (sent rest ≡ []) × (length (received rest) ≡ length rest)
 answers_only [] e = (refl, refl)
 answers_only (Received bytes ∷ rest) e = let r = answers_only rest e in (r.0, ap suc r.1)
 answers_only (Attached pages id ∷ rest) e = absurd (cc)
@@ -44,7 +33,7 @@ nothing : (rest : List Event) → length rest ≡ 0 → rest ≡ []
 nothing [] e = refl
 nothing (x ∷ rest) e = absurd (omega arith)
 
-module _ (client : ClientState) (hands : List SessionHand) (h : List MemEntry) (s : Session) (g : IsGathered client hands h s) (told : PushedAsTold hands g.whole.intake.entries) (d : IsDrainedLog client.log) where
+module _ (client : ClientState) (hands : List SessionHand) (h : List MemEntry) (s : Session) (g : IsSessionGathered client hands h s) (told : PushedAsTold hands g.whole.intake.entries) (d : IsDrainedLog client.log) where
   same_log : client.log ≡ log_of (acts_of client hands h s g told)
   same_log = sym (course client hands h s g).events_are
 

@@ -3,29 +3,17 @@ use Rattle.std.proofs.Common.{◌≡◌, ℕ, suc, ◌<◌, ◌≤◌, Bool, tru
 use Rattle.std.specs.List.{slice_get}
 use Rattle.std.proofs.lemmas.Bool.{eqb-true, lt-ltb}
 use Rattle.std.proofs.lemmas.List.{length-map, take-map}
-use Rattle.host_record.specs.declared.finish.Finish.{Finish}
-use Rattle.host_record.specs.declared.finish.Finish.TheVariants.{Drain, Abort}
+use Rattle.host_record.specs.{Finish, Drain, Abort}
 use Rattle.host_record.specs.declared.request.Request.{Request}
-use Rattle.host_model.specs.declared.memory.MemEntry.{MemEntry}
-use Rattle.host_model.specs.Answers.{AreDueAnswers, answer_bytes}
-use Rattle.host_model.specs.Groups.{is_owing, owed}
-use Rattle.host_model.specs.Lists.{below, count}
-use Rattle.host_model.specs.Log.{received, request_at, requests, sent}
+use Rattle.host_model.specs.{MemEntry, AreDueAnswers, answer_bytes, is_owing, owed, below, count, received, request_at, requests, sent, is_drain}
 use Rattle.host_model.specs.Session.{Session}
-use Rattle.host_model.specs.Taking.{is_drain}
-use Rattle.host_rings.specs.declared.slip.Slip.{Slip}
-use Rattle.host_intake.specs.Entries.{Landing, landings, request_in, requests_of}
-use Rattle.host_intake.specs.Told.{row_in}
-use Rattle.host_session.specs.declared.hand.SessionHand.{SessionHand}
-use Rattle.host_session.specs.Acts.{Act, log_of, slips_of}
-use Rattle.host_session.specs.Client.{ClientState, is_drained}
-use Rattle.host_session.specs.Counting.{AreAnswered, AreSentBefore, answered_in, due_records, times}
+use Rattle.host_rings.specs.{Slip}
+use Rattle.host_intake.specs.{Landing, landings, request_in, requests_of, row_in}
+use Rattle.host_session.specs.{SessionHand, Act, log_of, slips_of, ClientState, is_drained, AreAnswered, AreSentBefore, answered_in, due_records, times}
 use Rattle.host_session.proofs.Counting.{count-map, counting_tells}
 use Rattle.host_session.proofs.Requests.{answer_before, counting_holds_before, request_before}
 use Rattle.host_session.proofs.Times.{range_has, times-filter}
-use Rattle.session_law.specs.Answering.{DueAnswers}
-use Rattle.session_law.specs.Gathered.{IsGathered}
-use Rattle.session_law.specs.Handing.{PushedAsTold}
+use Rattle.session_law.specs.{DueAnswers, IsSessionGathered, PushedAsTold}
 use Rattle.session_law.proofs.Finding.{from_map}
 use Rattle.session_law.proofs.Gathered.{course, index_is, log_same, requests_are, ts_of}
 use Rattle.session_law.proofs.Handing.{answers_of, taken_due}
@@ -35,6 +23,7 @@ use Rattle.session_law.proofs.Returned.{AreAllLanded}
 use Rattle.session_law.proofs.Right.{IsRight, all_right, right_from, right_test, test_from}
 use Rattle.session_law.proofs.Sending.{more_sent, sent_until}
 use Rattle.session_law.proofs.Sums.{counted_none, none_counted, part_few, somewhere}
+use Rattle.host_log.proofs.Bools.{not_false}
 
 pub filter_few : {A : Type 0} (p : A → Bool) (xs : List A) → length (filter p xs) ≤ length xs
 filter_few p [] = omega arith
@@ -48,7 +37,7 @@ same_bytes : (f : ℕ → List ℕ) (xs : List Slip) → ((n : ℕ) (x : Slip) �
 same_bytes f [] h = refl
 same_bytes f (x ∷ xs) h = ap (λ b. b ∷ map (λ (y : Slip). y.bytes) xs) (h 0 x refl) ∙ ap (λ l. f x.index ∷ l) (same_bytes f xs (λ n y at. h (suc n) y at))
 
-module _ (client : ClientState) (hands : List SessionHand) (h : List MemEntry) (s : Session) (g : IsGathered client hands h s) (told : PushedAsTold hands g.whole.intake.entries) where
+module _ (client : ClientState) (hands : List SessionHand) (h : List MemEntry) (s : Session) (g : IsSessionGathered client hands h s) (told : PushedAsTold hands g.whole.intake.entries) where
   abbrev pub ls_of : List Landing
   ls_of = landings g.whole.intake.entries
 
@@ -84,11 +73,7 @@ module _ (client : ClientState) (hands : List SessionHand) (h : List MemEntry) (
   received_right j x at =
       let none : count wrong (answers_of ls_of) ≡ 0 = none_counted wrong (answers_of ls_of) (λ k y there. ap not (test_from (ts_of client hands h s g) ls_of g.whole.intake.cell_seat all_landed y (all_right (ts_of client hands h s g) ls_of g.whole.intake.cell_seat all_landed k y there))) in
       let zero_all : count wrong (slips_of acts_of) ≡ 0 = let f = few wrong in omega (arith, none, f) in
-      right_from (ts_of client hands h s g) ls_of g.whole.intake.cell_seat all_landed x (right_of (right_test (ts_of client hands h s g) ls_of g.whole.intake.cell_seat all_landed x) (counted_none wrong (slips_of acts_of) j x zero_all at))
-    where
-      right_of : (b : Bool) → not b ≡ false → b ≡ true
-      right_of true e = refl
-      right_of false e = absurd (cc)
+      right_from (ts_of client hands h s g) ls_of g.whole.intake.cell_seat all_landed x (not_false (right_test (ts_of client hands h s g) ls_of g.whole.intake.cell_seat all_landed x) (counted_none wrong (slips_of acts_of) j x zero_all at))
 
   abbrev pub answered : List ℕ
   answered = map (λ (x : Slip). x.index) (slips_of acts_of)

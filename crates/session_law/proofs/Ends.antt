@@ -5,21 +5,10 @@ use Rattle.std.specs.List.{cons_option, slice_get}
 use Rattle.std.proofs.lemmas.Bool.{eqb-true}
 use Rattle.host_block.proofs.Places.{from_filter, range_at}
 use Rattle.host_record.specs.declared.request.Request.{Request}
-use Rattle.host_record.specs.Command.{is_last}
-use Rattle.host_record.specs.Response.{response_bytes}
-use Rattle.host_model.specs.declared.row.TakenRow.{TakenRow}
-use Rattle.host_model.specs.Answers.{answer_bytes}
-use Rattle.host_model.specs.Groups.{closings, is_closing, is_member}
-use Rattle.host_model.specs.Lists.{below, count}
-use Rattle.host_model.specs.Log.{request_at}
-use Rattle.host_group.specs.declared.group_end.GroupEnd.{GroupEnd}
-use Rattle.host_group.specs.declared.view.Member.{Member}
-use Rattle.host_group.specs.declared.view.Row.{Row}
-use Rattle.host_group.specs.Ends.{IsEnd, end_of, ends_of, instance_rows, members_of, row_of}
-use Rattle.host_group.specs.Seats.{member}
-use Rattle.host_intake.specs.Answers.{group_slip}
-use Rattle.host_intake.specs.Laws.{HaveOutcomes}
-use Rattle.host_intake.specs.Members.{member_at, members}
+use Rattle.host_record.specs.{is_last, response_bytes}
+use Rattle.host_model.specs.{TakenRow, answer_bytes, closings, is_closing, is_member, below, count, request_at}
+use Rattle.host_group.specs.{GroupEnd, Member, Row, IsEnd, end_of, ends_of, instance_rows, members_of, row_of, member}
+use Rattle.host_intake.specs.{group_slip, HaveOutcomes, member_at, members}
 use Rattle.host_intake.proofs.EndAnswers.{answer_is, index_within}
 use Rattle.host_intake.proofs.Membering.{member_index}
 use Rattle.session_law.proofs.Finding.{from_map}

@@ -3,8 +3,7 @@ use Rattle.std.proofs.Common.{◌≡◌, ℕ, zero, suc, Bool, true, false, cond
 use Rattle.std.specs.Prelude.{find, unwrap_or}
 use Rattle.std.specs.List.{slice_get}
 use Rattle.std.proofs.lemmas.List.{reverse-append}
-use Rattle.host_intake.proofs.Judging.{get_last}
-use Rattle.session_law.proofs.Places.{in_front}
+use Rattle.host_log.proofs.Places.{get_last, stands_append}
 
 module _ {A B : Type 0} (f : A → B) where
   pub from_map : (xs : List A) (n : ℕ) (y : B) → slice_get (map f xs) n ≡ Some y → (x : A) × (slice_get xs n ≡ Some x) × (f x ≡ y)
@@ -18,7 +17,7 @@ module _ {A : Type 0} where
   in_reverse [] zero x at = absurd (cc)
   in_reverse [] (suc n) x at = absurd (cc)
   in_reverse (y ∷ ys) zero x at = let same : y ≡ x = cc in (length (reverse ys), ap (λ l. slice_get l (length (reverse ys))) (reverse-append (y ∷ []) ys) ∙ (get_last (reverse ys) y ∙ ap Some same))
-  in_reverse (y ∷ ys) (suc n) x at = let r = in_reverse ys n x at in (r.0, ap (λ l. slice_get l r.0) (reverse-append (y ∷ []) ys) ∙ in_front (reverse ys) (y ∷ []) r.0 x r.1)
+  in_reverse (y ∷ ys) (suc n) x at = let r = in_reverse ys n x at in (r.0, ap (λ l. slice_get l r.0) (reverse-append (y ∷ []) ys) ∙ stands_append (reverse ys) (y ∷ []) r.0 x r.1)
 
   -- what is found stands there
   pub find_place : (p : A → Bool) (xs : List A) (x : A) → find p xs ≡ Some x → (n : ℕ) × (slice_get xs n ≡ Some x) × (p x ≡ true)

@@ -1,16 +1,11 @@
 -- How the fronts that a client end knows grow from act to act.
 use Rattle.std.proofs.Common.{◌≡◌, ◌⊎◌, inl, inr, ℕ, zero, suc, ◌-◌, ◌<◌, ◌≤◌, Bool, true, false, cond, List, take, Option, Some, None, sym, ap, subst, ◌∙◌, arith}
 use Rattle.std.specs.List.{slice_get}
-use Rattle.host_model.specs.declared.event.Event.{Event}
-use Rattle.host_model.specs.declared.event.Event.TheVariants.{Attached, NotAttached, Filled, Shown, Sent, Received, Drained, Aborted}
-use Rattle.host_model.specs.declared.memory.MemEntry.{MemEntry}
-use Rattle.host_rings.specs.declared.envelope.Envelope.{Envelope}
-use Rattle.host_rings.specs.declared.slip.Slip.{Slip}
-use Rattle.host_session.specs.declared.fronts.Fronts.{Fronts}
-use Rattle.host_session.specs.Acts.{Act, IsAct, IsEventAfter, fronts_after, has_entry}
-use Rattle.host_session.specs.Client.{AreWithin, slip_fronts}
+use Rattle.host_model.specs.{Event, Attached, NotAttached, Filled, Shown, Sent, Received, Drained, Aborted, MemEntry}
+use Rattle.host_rings.specs.{Envelope, Slip}
+use Rattle.host_session.specs.{Fronts, Act, IsAct, IsEventAfter, fronts_after, has_entry, AreWithin, slip_fronts}
 use Rattle.host_session.proofs.Course.{fronts_of_last, within_refl, within_trans}
-use Rattle.session_law.specs.Fronts.{DoFrontsRise, FrontsRise, envelope_fronts}
+use Rattle.session_law.specs.{DoFrontsRise, FrontsRise, envelope_fronts}
 use Rattle.session_law.proofs.Places.{one_before, take_one}
 
 -- ---- one act

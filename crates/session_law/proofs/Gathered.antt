@@ -5,33 +5,22 @@ use Rattle.std.specs.Option.{option_map}
 use Rattle.std.proofs.lemmas.List.{length-map, map-append, take-append-drop}
 use Rattle.std.proofs.lemmas.Option.{slice_get-map}
 use Rattle.host_block.specs.declared.range.Range.{Range}
-use Rattle.host_group.specs.Ends.{greatest}
-use Rattle.host_intake.specs.declared.entry.IntakeEntry.{IntakeEntry}
+use Rattle.host_group.specs.{greatest}
+use Rattle.host_intake.specs.{IntakeEntry, IntakePlan, Taking, envelope_of, maker_of, place_of, request_in, requests_of, takings, is_turned_below, AreTaken, memory_front_in, seen_of, turns}
 use Rattle.host_intake.specs.declared.entry.Phase.TheVariants as phase
-use Rattle.host_intake.specs.declared.plan.IntakePlan.{IntakePlan}
-use Rattle.host_intake.specs.Entries.{Taking, envelope_of, maker_of, place_of, request_in, requests_of, takings}
-use Rattle.host_intake.specs.Intaken.{is_turned_below}
-use Rattle.host_intake.specs.Takings.{AreTaken}
-use Rattle.host_intake.specs.Told.{memory_front_in, seen_of, turns}
 use Rattle.host_intake.proofs.Judging.{taken_longer}
 use Rattle.host_intake.proofs.Verdicts.{numbered_place}
-use Rattle.host_model.specs.declared.memory.MemEntry.{MemEntry}
-use Rattle.host_model.specs.Log.{requests, sent}
-use Rattle.host_model.specs.Lists.{last}
+use Rattle.host_model.specs.{MemEntry, requests, sent, last}
 use Rattle.host_model.specs.Session.{Session}
-use Rattle.host_record.specs.declared.finish.Finish.{Finish}
-use Rattle.host_record.specs.declared.finish.Finish.TheVariants.{Drain, Abort}
+use Rattle.host_record.specs.{Finish, Drain, Abort, request_of}
 use Rattle.host_record.specs.declared.request.Request.{Request}
-use Rattle.host_record.specs.Request.{request_of}
-use Rattle.host_rings.specs.declared.envelope.Envelope.{Envelope}
-use Rattle.host_turn.specs.History.{entries_of}
-use Rattle.host_turn.specs.Seats.{number, seen_by}
-use Rattle.host_session.specs.declared.hand.SessionHand.{SessionHand}
-use Rattle.host_session.specs.Acts.{IsCourse}
-use Rattle.host_session.specs.Client.{ClientState, turns_made}
+use Rattle.host_rings.specs.{Envelope}
+use Rattle.host_log.specs.{entries_of}
+use Rattle.host_turn.specs.{number, seen_by}
+use Rattle.host_session.specs.{SessionHand, IsCourse, ClientState, turns_made}
 use Rattle.host_session.proofs.Turning.{turns_same}
-use Rattle.session_law.specs.Gathered.{IsGathered}
-use Rattle.session_law.proofs.Places.{in_front}
+use Rattle.session_law.specs.{IsSessionGathered}
+use Rattle.host_log.proofs.Places.{stands_append}
 
 -- ---- lists
 
@@ -52,7 +41,7 @@ closed_is (Some Drain) false e = absurd (cc)
 closed_is (Some Abort) false e = absurd (cc)
 closed_is (Some how) true e = refl
 
-module _ (client : ClientState) (hands : List SessionHand) (h : List MemEntry) (s : Session) (g : IsGathered client hands h s) where
+module _ (client : ClientState) (hands : List SessionHand) (h : List MemEntry) (s : Session) (g : IsSessionGathered client hands h s) where
   abbrev pub es_of : List IntakeEntry
   es_of = g.whole.intake.entries
 
@@ -92,7 +81,7 @@ module _ (client : ClientState) (hands : List SessionHand) (h : List MemEntry) (
   -- the envelope of a record that was taken is the one that was sent
   pub envelope_at : (i : ℕ) (t : Taking) → slice_get ts_of i ≡ Some t → slice_get client.sender.pushed i ≡ Some t.envelope
   envelope_at i t at =
-      ap (λ l. slice_get l i) pushed_are ∙ in_front (map envelope_of ts_of) more i t.envelope (slice_get-map envelope_of ts_of i ∙ ap (λ o. option_map envelope_of o) at)
+      ap (λ l. slice_get l i) pushed_are ∙ stands_append (map envelope_of ts_of) more i t.envelope (slice_get-map envelope_of ts_of i ∙ ap (λ o. option_map envelope_of o) at)
 
   pub log_same : client.log ≡ s.log
   log_same = sym g.whole.log_is

@@ -9,34 +9,23 @@ use Rattle.std.proofs.lemmas.List.Elements.{filter_map-append}
 use Rattle.std.proofs.lemmas.List.FromFn.{length-range_with_len}
 use Rattle.host_block.proofs.Places.{within}
 use Rattle.host_record.specs.declared.request.Request.{Request}
-use Rattle.host_record.specs.Request.{request_of}
-use Rattle.host_model.specs.declared.event.Event.{Event}
-use Rattle.host_model.specs.declared.memory.MemEntry.{MemEntry}
-use Rattle.host_model.specs.Answers.{answer_bytes, due}
-use Rattle.host_model.specs.Groups.{answers_for, is_owing, owed, owing_record}
-use Rattle.host_model.specs.Lists.{below, count}
-use Rattle.host_model.specs.Log.{received, request_at, requests, sent, sent_bytes}
-use Rattle.host_model.specs.Order.{HadBefore, is_received}
+use Rattle.host_record.specs.{request_of}
+use Rattle.host_model.specs.{Event, MemEntry, answer_bytes, due, answers_for, is_owing, owed, owing_record, below, count, received, request_at, requests, sent, sent_bytes, HadBefore, was_answered}
 use Rattle.host_model.specs.Session.{Session}
 use Rattle.host_model.proofs.ListTests.{both}
-use Rattle.host_rings.specs.declared.slip.Slip.{Slip}
-use Rattle.host_intake.specs.Entries.{Landing, requests_of}
+use Rattle.host_rings.specs.{Slip}
+use Rattle.host_intake.specs.{Landing, requests_of}
 use Rattle.host_intake.proofs.Verdicts.{numbered_place}
-use Rattle.host_session.specs.declared.hand.SessionHand.{SessionHand}
-use Rattle.host_session.specs.Acts.{Act}
-use Rattle.host_session.specs.Client.{ClientState}
-use Rattle.host_session.specs.Counting.{answered_in, due_records, times}
+use Rattle.host_session.specs.{SessionHand, Act, ClientState, answered_in, due_records, times}
 use Rattle.host_session.proofs.Counting.{counting_tells}
-use Rattle.host_session.proofs.Requests.{counting_holds_before}
+use Rattle.host_session.proofs.Requests.{counting_holds_before, answers_before}
 use Rattle.host_session.proofs.Times.{range_has, times-filter}
-use Rattle.session_law.specs.Gathered.{IsGathered}
-use Rattle.session_law.specs.Handing.{PushedAsTold}
-use Rattle.session_law.specs.Hands.{Ended}
+use Rattle.session_law.specs.{IsSessionGathered, PushedAsTold, Ended}
 use Rattle.session_law.proofs.Due.{acts_of, answered, answered_by_act, are_answered, asked_count, ls_of, received_right, row_many, sent_before}
 use Rattle.session_law.proofs.Finding.{find_place}
 use Rattle.session_law.proofs.Gathered.{requests_are, ts_of}
 use Rattle.session_law.proofs.Places.{has_found}
-use Rattle.session_law.proofs.Prefixes.{answers_before, answers_earlier, owing_from}
+use Rattle.session_law.proofs.Prefixes.{answers_earlier, owing_from}
 
 -- the requests of the first events are the first of all
 requests_split : (log : List Event) (n : ℕ) → (rest : List Request) × (requests log ≡ requests (take n log) ++ rest)
@@ -46,7 +35,7 @@ requests_split log n = (
       ∙ (ap (map request_of) (filter_map-append sent_bytes (take n log) (drop n log)) ∙ map-append request_of (sent (take n log)) (sent (drop n log))),
 )
 
-module _ (client : ClientState) (hands : List SessionHand) (h : List MemEntry) (s : Session) (g : IsGathered client hands h s) (told : PushedAsTold hands g.whole.intake.entries) where
+module _ (client : ClientState) (hands : List SessionHand) (h : List MemEntry) (s : Session) (g : IsSessionGathered client hands h s) (told : PushedAsTold hands g.whole.intake.entries) where
   -- The answer to record r was received by an act before event n. Its slip's fronts are no smaller than those of the
   -- record's end.
   pub record IsHad (n r : ℕ) : Type 0 where
@@ -114,12 +103,12 @@ module _ (client : ClientState) (hands : List SessionHand) (h : List MemEntry) (
   pub had : (n r : ℕ) → HadBefore s n r → IsHad n r
   had n r before = step (owing_record (requests (take before.0 s.log)) r) refl before.2
     where
-      step : (o : Option ℕ) → owing_record (requests (take before.0 s.log)) r ≡ o → option_map_or (λ k. nat_lt k (length s.rows) && is_received s (take before.0 s.log) k) o false ≡ true → IsHad n r
+      step : (o : Option ℕ) → owing_record (requests (take before.0 s.log)) r ≡ o → option_map_or (λ k. nat_lt k (length s.rows) && was_answered s (take before.0 s.log) k) o false ≡ true → IsHad n r
       step None e f = absurd (cc)
       step (Some o) e f =
           let m : ℕ = before.0 in
           let rs : List Request = requests (take before.0 s.log) in
-          let t = both (nat_lt o (length s.rows)) (is_received s (take before.0 s.log) o) f in
+          let t = both (nat_lt o (length s.rows)) (was_answered s (take before.0 s.log) o) f in
           let p = find_place (λ k. answers_for (requests (take before.0 s.log)) k r) (below (length rs)) o e in
           let place = numbered_place 0 (length rs) p.0 o p.1 in
           let inside = within (below (length rs)) p.0 o p.1 in

@@ -4,17 +4,13 @@ use Rattle.std.specs.List.{cons_option, list_any, slice_get}
 use Rattle.std.proofs.lemmas.List.{drop-drop, length-map}
 use Rattle.std.proofs.lemmas.List.Elements.{filter_map-append}
 use Rattle.std.proofs.lemmas.List.Folds.{list_any-append}
-use Rattle.host_intake.specs.declared.entry.IntakeEntry.{IntakeEntry}
-use Rattle.host_intake.specs.declared.entry.IntakeEntry.TheVariants.{Took, Landed, Passed, Turned}
-use Rattle.host_intake.specs.Entries.{Landing, landings, maker_of}
-use Rattle.host_intake.specs.Told.{is_aborted, is_passed, kept_by, kept_slips, turn_of, turns, was_aborted}
-use Rattle.host_model.specs.Lists.{count, map_after}
-use Rattle.host_rings.specs.declared.slip.Slip.{Slip}
-use Rattle.host_rings.specs.Slips.{AllBelow, ComeFrom, Marked, sent_by, slips}
-use Rattle.host_session.specs.declared.hand.SessionHand.{SessionHand}
-use Rattle.host_session.proofs.Snoc.{filter_none, filter_one, found_none, found_one}
-use Rattle.host_session.specs.Handed.{handed_by, slip_by, slip_in}
-use Rattle.session_law.specs.Handing.{PushedAsTold}
+use Rattle.host_intake.specs.{IntakeEntry, Took, Landed, Passed, Turned, Landing, landings, maker_of, is_aborted_phase, is_passed, kept_by, kept_slips, turn_of, turns, was_aborted}
+use Rattle.host_model.specs.{count, map_after}
+use Rattle.host_rings.specs.{Slip, AllBelow, ComeFrom, Marked, slips_sent_by, slips}
+use Rattle.host_session.specs.{SessionHand, handed_by, slip_by, slip_in}
+use Rattle.host_session.proofs.Snoc.{found_none, found_one}
+use Rattle.host_memory.proofs.Pushed.{filter_add, filter_skip}
+use Rattle.session_law.specs.{PushedAsTold}
 use Rattle.session_law.proofs.Sums.{bit, count_both, count_one, count_option, hits, only_at_one, sum_below, sum_both, sum_few, sum_none, sum_one, sum_one_few, sum_same}
 
 -- the answers that records' ends made due
@@ -72,8 +68,8 @@ module _ (p : Slip → Bool) where
 
     same_kept : (e : IntakeEntry) → turn_of e ≡ None → is_passed e ≡ false → kept_by e ≡ None → kept_slips (before ++ e ∷ []) ≡ kept_slips before
     same_kept e t q k =
-        let a : was_aborted (before ++ e ∷ []) ≡ was_aborted before = ap (list_any is_aborted) (found_none turn_of before e t) in
-        let n : count is_passed (before ++ e ∷ []) ≡ count is_passed before = ap length (filter_none is_passed before e q) in
+        let a : was_aborted (before ++ e ∷ []) ≡ was_aborted before = ap (list_any is_aborted_phase) (found_none turn_of before e t) in
+        let n : count is_passed (before ++ e ∷ []) ≡ count is_passed before = ap length (filter_skip is_passed before e q) in
         let l : filter_map kept_by (before ++ e ∷ []) ≡ filter_map kept_by before = found_none kept_by before e k in
         ap (λ b. cond b [] (drop (count is_passed (before ++ e ∷ [])) (filter_map kept_by (before ++ e ∷ [])))) a
         ∙ (ap (λ m. cond (was_aborted before) [] (drop m (filter_map kept_by (before ++ e ∷ [])))) n
@@ -85,8 +81,8 @@ module _ (p : Slip → Bool) where
     step (Landed hand index end answer false) = let k = ap (count p) (same_kept (Landed hand index end answer false) refl refl refl) in omega arith
     step (Landed hand index end answer true) =
         let e : IntakeEntry = Landed hand index end answer true in
-        let a : was_aborted (before ++ e ∷ []) ≡ was_aborted before = ap (list_any is_aborted) (found_none turn_of before e refl) in
-        let n : count is_passed (before ++ e ∷ []) ≡ count is_passed before = ap length (filter_none is_passed before e refl) in
+        let a : was_aborted (before ++ e ∷ []) ≡ was_aborted before = ap (list_any is_aborted_phase) (found_none turn_of before e refl) in
+        let n : count is_passed (before ++ e ∷ []) ≡ count is_passed before = ap length (filter_skip is_passed before e refl) in
         let l : filter_map kept_by (before ++ e ∷ []) ≡ filter_map kept_by before ++ filter_map kept_by (e ∷ []) = filter_map-append kept_by before (e ∷ []) in
         let whole : kept_slips (before ++ e ∷ []) ≡ kept_in (was_aborted before) (count is_passed before) (filter_map kept_by before ++ cons_option answer []) =
         ap (λ b. cond b [] (drop (count is_passed (before ++ e ∷ [])) (filter_map kept_by (before ++ e ∷ [])))) a
@@ -103,8 +99,8 @@ module _ (p : Slip → Bool) where
         either false n xs ys = drop_few n xs ys
     step (Passed hand) =
         let e : IntakeEntry = Passed hand in
-        let a : was_aborted (before ++ e ∷ []) ≡ was_aborted before = ap (list_any is_aborted) (found_none turn_of before e refl) in
-        let n : count is_passed (before ++ e ∷ []) ≡ count is_passed before + 1 = ap length (filter_one is_passed before e refl) ∙ one_longer (filter is_passed before) e in
+        let a : was_aborted (before ++ e ∷ []) ≡ was_aborted before = ap (list_any is_aborted_phase) (found_none turn_of before e refl) in
+        let n : count is_passed (before ++ e ∷ []) ≡ count is_passed before + 1 = ap length (filter_add is_passed before e refl) ∙ one_longer (filter is_passed before) e in
         let l : filter_map kept_by (before ++ e ∷ []) ≡ filter_map kept_by before = found_none kept_by before e refl in
         let whole : kept_slips (before ++ e ∷ []) ≡ kept_in (was_aborted before) (count is_passed before + 1) (filter_map kept_by before) =
         ap (λ b. cond b [] (drop (count is_passed (before ++ e ∷ [])) (filter_map kept_by (before ++ e ∷ [])))) a
@@ -123,15 +119,15 @@ module _ (p : Slip → Bool) where
         either false n xs = let d : count p (drop 1 (drop n xs)) ≡ count p (drop (n + 1) xs) = ap (count p) (drop-drop 1 n xs) in omega (arith, d, first_of (drop n xs))
     step (Turned hand phase) =
         let e : IntakeEntry = Turned hand phase in
-        let a : was_aborted (before ++ e ∷ []) ≡ (was_aborted before || (is_aborted phase || false)) = ap (list_any is_aborted) (found_one turn_of before e phase refl) ∙ list_any-append is_aborted (turns before) (phase ∷ []) in
-        let n : count is_passed (before ++ e ∷ []) ≡ count is_passed before = ap length (filter_none is_passed before e refl) in
+        let a : was_aborted (before ++ e ∷ []) ≡ (was_aborted before || (is_aborted_phase phase || false)) = ap (list_any is_aborted_phase) (found_one turn_of before e phase refl) ∙ list_any-append is_aborted_phase (turns before) (phase ∷ []) in
+        let n : count is_passed (before ++ e ∷ []) ≡ count is_passed before = ap length (filter_skip is_passed before e refl) in
         let l : filter_map kept_by (before ++ e ∷ []) ≡ filter_map kept_by before = found_none kept_by before e refl in
-        let whole : kept_slips (before ++ e ∷ []) ≡ kept_in (was_aborted before || (is_aborted phase || false)) (count is_passed before) (filter_map kept_by before) =
+        let whole : kept_slips (before ++ e ∷ []) ≡ kept_in (was_aborted before || (is_aborted_phase phase || false)) (count is_passed before) (filter_map kept_by before) =
         ap (λ b. cond b [] (drop (count is_passed (before ++ e ∷ [])) (filter_map kept_by (before ++ e ∷ [])))) a
-        ∙ (ap (λ m. cond (was_aborted before || (is_aborted phase || false)) [] (drop m (filter_map kept_by (before ++ e ∷ [])))) n
-        ∙ ap (λ m. cond (was_aborted before || (is_aborted phase || false)) [] (drop (count is_passed before) m)) l) in
+        ∙ (ap (λ m. cond (was_aborted before || (is_aborted_phase phase || false)) [] (drop m (filter_map kept_by (before ++ e ∷ [])))) n
+        ∙ ap (λ m. cond (was_aborted before || (is_aborted_phase phase || false)) [] (drop (count is_passed before) m)) l) in
         let c = ap (count p) whole in
-        let few = either (was_aborted before) (is_aborted phase) (drop (count is_passed before) (filter_map kept_by before)) in
+        let few = either (was_aborted before) (is_aborted_phase phase) (drop (count is_passed before) (filter_map kept_by before)) in
         omega (arith, c, few)
       where
         either : (b d : Bool) (xs : List Slip) → count p (cond (b || (d || false)) [] xs) ≤ count p (cond b [] xs)
@@ -160,13 +156,13 @@ module _ (p : Slip → Bool) where
 
   -- ---- what came through the ring
 
-  all_sent : (n : ℕ) (ms : List Marked) → AllBelow n ms → sum_below n (λ k. count p (sent_by k ms)) ≡ count p (slips ms)
+  all_sent : (n : ℕ) (ms : List Marked) → AllBelow n ms → sum_below n (λ k. count p (slips_sent_by k ms)) ≡ count p (slips ms)
   all_sent n [] b = sum_none n
   all_sent n (m ∷ ms) b =
       let c : ℕ = bit (p m.1) in
-      let split : sum_below n (λ k. count p (sent_by k (m ∷ ms))) ≡ sum_below n (λ k. only_at_one m.0 c k + count p (sent_by k ms)) =
-      sum_same n (λ k. count p (sent_by k (m ∷ ms))) (λ k. only_at_one m.0 c k + count p (sent_by k ms)) (λ k _. one (m.0 == k) (sent_by k ms)) in
-      let both = sum_both n (only_at_one m.0 c) (λ k. count p (sent_by k ms)) in
+      let split : sum_below n (λ k. count p (slips_sent_by k (m ∷ ms))) ≡ sum_below n (λ k. only_at_one m.0 c k + count p (slips_sent_by k ms)) =
+      sum_same n (λ k. count p (slips_sent_by k (m ∷ ms))) (λ k. only_at_one m.0 c k + count p (slips_sent_by k ms)) (λ k _. one (m.0 == k) (slips_sent_by k ms)) in
+      let both = sum_both n (only_at_one m.0 c) (λ k. count p (slips_sent_by k ms)) in
       let first = sum_one n m.0 c b.0 in
       let rest = all_sent n ms b.1 in
       omega (arith, split, both, first, rest, count_one p m.1 (slips ms))
@@ -186,9 +182,9 @@ module _ (p : Slip → Bool) where
       let ms : List Marked = from.0 in
       let below : AllBelow n ms = subst_below (length (map (λ (hand : SessionHand). hand.sender.pushed) hands)) n ms long from.2 in
       let a : count p taken ≡ count p (slips ms) = ap (count p) (sym from.1) in
-      let b : sum_below n (λ k. count p (sent_by k ms)) ≡ count p (slips ms) = all_sent n ms below in
-      let c : sum_below n (λ k. count p (sent_by k ms)) ≤ sum_below n (λ k. count p (handed_by k es)) =
-      sum_few n (λ k. count p (sent_by k ms)) (λ k. count p (handed_by k es)) (λ k lt. each k lt) in
+      let b : sum_below n (λ k. count p (slips_sent_by k ms)) ≡ count p (slips ms) = all_sent n ms below in
+      let c : sum_below n (λ k. count p (slips_sent_by k ms)) ≤ sum_below n (λ k. count p (handed_by k es)) =
+      sum_few n (λ k. count p (slips_sent_by k ms)) (λ k. count p (handed_by k es)) (λ k lt. each k lt) in
       omega (arith, a, b, c, all_hands n [] es, handed_due es)
     where
       subst_below : (m n : ℕ) (ms : List Marked) → m ≡ n → AllBelow m ms → AllBelow n ms
@@ -200,10 +196,10 @@ module _ (p : Slip → Bool) where
       pushed_at (x ∷ xs) zero lt = (x, refl, refl)
       pushed_at (x ∷ xs) (suc k) lt = pushed_at xs k (omega arith)
 
-      each : (k : ℕ) → k < length hands → count p (sent_by k from.0) ≤ count p (handed_by k es)
+      each : (k : ℕ) → k < length hands → count p (slips_sent_by k from.0) ≤ count p (handed_by k es)
       each k lt =
           let r = pushed_at hands k lt in
           let x : SessionHand = r.0 in
           let is : x.sender.pushed ≡ handed_by k es = ap (λ (hand : SessionHand). hand.sender.pushed) (sym r.1) ∙ told k x lt in
           let pre = from.3 k x.sender.pushed (let e = length-map hands (λ (hand : SessionHand). hand.sender.pushed) in omega arith) in
-          prefix_few (sent_by k from.0) pre.0 (handed_by k es) (pre.1 ∙ (r.2 ∙ is))
+          prefix_few (slips_sent_by k from.0) pre.0 (handed_by k es) (pre.1 ∙ (r.2 ∙ is))

@@ -8,16 +8,11 @@ use Rattle.std.proofs.lemmas.List.{length-map}
 use Rattle.std.proofs.lemmas.List.FromFn.{length-range_with_len}
 use Rattle.std.proofs.lemmas.Option.{get_or_from_slice_get, slice_get-map}
 use Rattle.host_block.proofs.Places.{any_at}
-use Rattle.host_intake.specs.Entries.{Landing, Taking, is_landing_of, place_of}
-use Rattle.host_intake.specs.Members.{AreLanded}
-use Rattle.host_intake.specs.Told.{is_open, outcome_in, row_in}
+use Rattle.host_intake.specs.{Landing, Taking, is_landing_of, place_of, AreLanded, is_open, outcome_in, row_in}
 use Rattle.host_intake.proofs.Admitting.{taken_at}
-use Rattle.host_model.specs.declared.row.TakenRow.{TakenRow}
-use Rattle.host_model.specs.declared.verdict.Verdict.TheVariants.{Refused}
-use Rattle.host_model.specs.Lists.{below, count}
-use Rattle.host_model.specs.Taking.{row_at}
+use Rattle.host_model.specs.{TakenRow, Refused, below, count, row_at}
 use Rattle.host_record.specs.declared.status.Status.TheVariants as status
-use Rattle.host_session.specs.Counting.{times}
+use Rattle.host_session.specs.{times}
 use Rattle.host_session.proofs.Counting.{count-map}
 use Rattle.host_session.proofs.Times.{StandsOnce, as_many_pass, count_split, range_once, times-filter}
 use Rattle.session_law.proofs.Lending.{eq_flip}

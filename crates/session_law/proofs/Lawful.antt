@@ -6,32 +6,13 @@ use Rattle.std.proofs.lemmas.Bool.{eqb-true, lt-ltb}
 use Rattle.std.proofs.lemmas.Option.{get_or_from_slice_get}
 use Rattle.host_block.proofs.Places.{from_filter, in_map, within}
 use Rattle.host_record.specs.declared.status.Status.TheVariants as status
-use Rattle.host_record.specs.Command.{opcode}
-use Rattle.host_model.specs.declared.memory.MemEntry.{MemEntry}
-use Rattle.host_model.specs.declared.memory.MemEvent.{MemEvent}
-use Rattle.host_model.specs.declared.row.TakenRow.{TakenRow}
-use Rattle.host_model.specs.declared.step.Step.{Step}
-use Rattle.host_model.specs.declared.verdict.Verdict.TheVariants.{Refused}
-use Rattle.host_model.specs.Buffers.{IsBufferHistory}
-use Rattle.host_model.specs.Carrying.{AreCarriedOut, IsCarriedOut, asked, asked_in, carries_out, outcome_of, steps_of}
-use Rattle.host_model.specs.LawfulSession.{IsLawfulSession}
-use Rattle.host_model.specs.Log.{request_at, requests}
-use Rattle.host_model.specs.RecordEntries.{HasEntries, HaveEntries, entries_of, entries_owed, entry_of, index_of, names_taken}
+use Rattle.host_record.specs.{opcode}
+use Rattle.host_model.specs.{MemEntry, MemEvent, TakenRow, Step, Refused, IsBufferHistory, AreCarriedOut, IsCarriedOut, asked, asked_in, carries_out, outcome_of, steps_of, IsLawfulSession, request_at, requests, HasEntries, HaveEntries, entries_of, entries_owed, record_entry, index_of, names_taken, row_at}
 use Rattle.host_model.specs.Session.{Session}
-use Rattle.host_model.specs.Taking.{row_at}
-use Rattle.host_memory.specs.State.{events}
-use Rattle.host_intake.specs.declared.entry.IntakeEntry.{IntakeEntry}
-use Rattle.host_intake.specs.declared.entry.IntakeEntry.TheVariants.{Took, Landed, Passed, Turned}
-use Rattle.host_intake.specs.Entries.{Landing, Taking, landings, maker_of, place_of, request_in, taking_of, takings}
-use Rattle.host_intake.specs.Takings.{made, made_for, made_under}
-use Rattle.host_intake.specs.Told.{row_in}
-use Rattle.host_session.specs.declared.hand.SessionHand.{SessionHand}
-use Rattle.host_session.specs.Client.{ClientState}
-use Rattle.host_session.specs.Moves.{moves_for, moves_owed}
-use Rattle.session_law.specs.Carrying.{IsCarried}
-use Rattle.session_law.specs.Gathered.{IsGathered}
-use Rattle.session_law.specs.Hands.{Ended}
-use Rattle.session_law.specs.Lawful.{AreKept, SessionsAreLawful}
+use Rattle.host_memory.specs.{events}
+use Rattle.host_intake.specs.{IntakeEntry, Took, Landed, Passed, Turned, Landing, Taking, landings, maker_of, place_of, request_in, taking_of, takings, made, made_for, made_under, row_in}
+use Rattle.host_session.specs.{SessionHand, ClientState, moves_for, moves_owed}
+use Rattle.session_law.specs.{IsLandingCarried, IsSessionGathered, Ended, AreKept, SessionsAreLawful}
 use Rattle.session_law.proofs.Buffers.{told_so}
 use Rattle.session_law.proofs.Draining.{drains_come_last}
 use Rattle.session_law.proofs.Due.{all_landed, due_so}
@@ -39,7 +20,8 @@ use Rattle.session_law.proofs.Entries.{entries_are, owed}
 use Rattle.session_law.proofs.Gathered.{index_is, taken_whole}
 use Rattle.session_law.proofs.Ordered.{order_kept}
 use Rattle.session_law.proofs.Owners.{client_none, hand_is, own_entry, request_is}
-use Rattle.session_law.proofs.Places.{found_at, in_filter, only_at, some_at}
+use Rattle.session_law.proofs.Places.{found_at, only_at}
+use Rattle.host_log.proofs.Places.{some_at, in_filter}
 use Rattle.session_law.proofs.Released.{entry_at}
 use Rattle.session_law.proofs.Returned.{landing_at, outcome_at}
 use Rattle.session_law.proofs.Taken.{in_order, row_count}
@@ -49,7 +31,7 @@ all_from : {A : Type 0} (p : A → Bool) (xs : List A) → ((n : ℕ) (x : A) �
 all_from p [] h = refl
 all_from p (x ∷ xs) h = ap (λ b. b && list_all p xs) (h 0 x refl) ∙ all_from p xs (λ n y at. h (suc n) y at)
 
-module _ (client : ClientState) (hands : List SessionHand) (h : List MemEntry) (steps : List Step) (s : Session) (g : IsGathered client hands h s) (k : AreKept client hands h steps s g) where
+module _ (client : ClientState) (hands : List SessionHand) (h : List MemEntry) (steps : List Step) (s : Session) (g : IsSessionGathered client hands h s) (k : AreKept client hands h steps s g) where
   abbrev ts : List Taking
   ts = takings g.whole.intake.entries
 
@@ -65,7 +47,7 @@ module _ (client : ClientState) (hands : List SessionHand) (h : List MemEntry) (
     pub row : row_at s.rows i ≡ row_in ls taking
     pub outcome : (row_at s.rows i).outcome ≡ landing.end.outcome
     pub place : place_of taking ≡ i
-    pub carried : IsCarried client.plan.spec.part h s.steps landing taking
+    pub carried : IsLandingCarried client.plan.spec.part h s.steps landing taking
 
   taken_at : (i : ℕ) → i < length s.rows → IsTaken i
   taken_at i lt =
@@ -132,7 +114,7 @@ module _ (client : ClientState) (hands : List SessionHand) (h : List MemEntry) (
         let same : x.taking ≡ t = only_at ts i x.taking t x.stands stands in
         subst (λ (w : Taking). ((e.hand ≡ w.hand) × (w.seen + length (made w) ≤ p)) ⊎ ((e.hand ≡ client.plan.hands + 1) × (p ≡ w.seen) × (0 < length (made w)))) same x.where_is
 
-    own_are : filter_map (entry_of i) (events h) ≡ filter_map (entry_of i) (made t) ++ moves_for t.hand i h
+    own_are : filter_map (record_entry i) (events h) ≡ filter_map (record_entry i) (made t) ++ moves_for t.hand i h
     own_are = entries_are i t.hand h t.seen (length (made t)) (client.plan.hands + 1) (made t) ((taken_whole client hands h s g).judged i t stands).left
         (λ p e at is. first e p (split_at p e at is))
         (λ p e at is le. second p e le (split_at p e at is))
@@ -160,9 +142,9 @@ module _ (client : ClientState) (hands : List SessionHand) (h : List MemEntry) (
       let own : List MemEvent = entries_of i s.memory in
       let moved : moves_for t.hand i h ≡ moves_owed t.verdict l.end.outcome i (request_in t) (steps_of i s.steps) (moves_for t.hand i h) =
       subst (λ j. moves_for t.hand j h ≡ moves_owed t.verdict l.end.outcome j (request_in t) (steps_of j s.steps) (moves_for t.hand j h)) x.ended.2 x.carried.moved in
-      let all : entries_of i s.memory ≡ filter_map (entry_of i) (made_under t.verdict (made_for (opcode (request_in t)) i (request_in t).vmoid t.hand t.waits)) ++ moves_for t.hand i h =
-      ap (filter_map (entry_of i)) g.memory ∙ (own_are i t x.stands
-      ∙ ap (λ j. filter_map (entry_of i) (made_under t.verdict (made_for (opcode (request_in t)) j (request_in t).vmoid t.hand t.waits)) ++ moves_for t.hand i h) x.place) in
+      let all : entries_of i s.memory ≡ filter_map (record_entry i) (made_under t.verdict (made_for (opcode (request_in t)) i (request_in t).vmoid t.hand t.waits)) ++ moves_for t.hand i h =
+      ap (filter_map (record_entry i)) g.memory ∙ (own_are i t x.stands
+      ∙ ap (λ j. filter_map (record_entry i) (made_under t.verdict (made_for (opcode (request_in t)) j (request_in t).vmoid t.hand t.waits)) ++ moves_for t.hand i h) x.place) in
       let owes : entries_of i s.memory ≡ entries_owed t.verdict l.end.outcome i (request_in t) (steps_of i s.steps) (entries_of i s.memory) =
       owed l.end.outcome i (request_in t) t.hand (steps_of i s.steps) (entries_of i s.memory) (moves_for t.hand i h) t.verdict t.waits all moved in
       let verdict : t.verdict ≡ (row_at s.rows i).verdict = ap (λ (r : TakenRow). r.verdict) (sym x.row) in

@@ -5,19 +5,12 @@ use Rattle.std.specs.List.{cons_option, range_with_len, slice_get}
 use Rattle.std.proofs.lemmas.Bool.{and_right, eqb-true}
 use Rattle.std.proofs.lemmas.List.{map-append, take-append-drop, length-take-le}
 use Rattle.std.proofs.lemmas.List.Elements.{filter_map-append}
-use Rattle.host_model.specs.declared.event.Event.{Event}
-use Rattle.host_model.specs.declared.event.Event.TheVariants.{Attached, NotAttached, Filled, Shown, Sent, Received, Drained, Aborted}
-use Rattle.host_model.specs.declared.memory.MemEntry.{MemEntry}
-use Rattle.host_model.specs.declared.memory.MemEvent.{MemEvent}
-use Rattle.host_model.specs.declared.memory.MemEvent.TheVariants.{Attach}
-use Rattle.host_model.specs.ClientEntries.{entry_after, is_client, lent_by, lent_in, told}
-use Rattle.host_model.specs.Lists.{map_after}
-use Rattle.host_model.specs.Log.{given, given_before, sent}
+use Rattle.host_model.specs.{Event, Attached, NotAttached, Filled, Shown, Sent, Received, Drained, Aborted, MemEntry, MemEvent, Attach, entry_after, is_client, lent_by, lent_in, told, map_after, given, given_before, sent}
 use Rattle.host_model.proofs.Lent.{lent_in-told}
-use Rattle.host_memory.specs.Held.{attachment_by}
-use Rattle.host_memory.specs.State.{events}
-use Rattle.host_session.specs.Counting.{times}
+use Rattle.host_memory.specs.{attachment_by, events}
+use Rattle.host_session.specs.{times}
 use Rattle.host_session.proofs.Times.{range_once}
+use Rattle.host_log.proofs.Bools.{never_true}
 
 -- whether the entry attached a buffer before record i was sent
 abbrev pub is_attached_for : ℕ → MemEvent → Bool
@@ -45,14 +38,10 @@ not_lent : (i v : ℕ) (e : MemEvent) → is_attached_for i e ≡ false → lent
 not_lent i v (Attach id pages from) h = ap (λ b. if b then Some pages else None) (and_right (id == v) (nat_le from i) h)
 not_lent i v _ h = refl
 
-attached_or : (b : Bool) → (b ≡ true → ⊥) → b ≡ false
-attached_or true h = absurd (h refl)
-attached_or false h = refl
-
 none_lent : (i v : ℕ) (xs : List MemEntry) → ((k : ℕ) (e : MemEntry) → slice_get xs k ≡ Some e → is_attached_for i e.what ≡ true → ⊥) → filter_map (lent_by i v) (events xs) ≡ []
 none_lent i v [] h = refl
 none_lent i v (x ∷ xs) h =
-    ap (λ o. cons_option o (filter_map (lent_by i v) (events xs))) (not_lent i v x.what (attached_or (is_attached_for i x.what) (h 0 x refl)))
+    ap (λ o. cons_option o (filter_map (lent_by i v) (events xs))) (not_lent i v x.what (never_true (is_attached_for i x.what) (h 0 x refl)))
     ∙ none_lent i v xs (λ k e at. h (suc k) e at)
 
 -- what is lent to a record stands below its memory front

@@ -30,3 +30,11 @@ pub mod Used
 pub mod Entries
 pub mod Lawful
 pub mod Draining
+pub mod Whole
+pub mod Waiting
+pub mod Kept
+pub mod Totals
+pub mod Given
+pub mod Releasing
+pub mod Pages
+pub mod Idle

@@ -6,16 +6,9 @@ use Rattle.std.proofs.lemmas.List.Elements.{filter-append, filter_agree}
 use Rattle.host_record.specs.declared.request.Request.{Request}
 use Rattle.host_record.specs.declared.status.Status.{Status}
 use Rattle.host_record.specs.declared.status.Status.TheVariants as status
-use Rattle.host_record.specs.Response.{response_bytes}
-use Rattle.host_record.specs.Status.{status_number}
-use Rattle.host_model.specs.declared.row.TakenRow.{TakenRow}
-use Rattle.host_model.specs.Answers.{answer_bytes, first_failure}
-use Rattle.host_model.specs.Groups.{answered_by, answers_for, instance_of, is_closing, is_member, same_instance}
-use Rattle.host_model.specs.Lists.{below}
-use Rattle.host_model.specs.Log.{request_at}
-use Rattle.host_model.specs.Taking.{row_at}
-use Rattle.host_intake.specs.declared.entry.RecordEnd.{RecordEnd}
-use Rattle.host_intake.specs.Answers.{lone_slip}
+use Rattle.host_record.specs.{response_bytes, status_number}
+use Rattle.host_model.specs.{TakenRow, answer_bytes, first_failure, answered_by, answers_for, instance_of, is_closing, is_member, same_instance, below, request_at, row_at}
+use Rattle.host_intake.specs.{RecordEnd, lone_slip}
 use Rattle.host_intake.proofs.Counting.{below_more}
 
 none_below : (i a n : ℕ) → a + n ≤ i → filter (λ k. i == k) (range_with_len a n) ≡ []

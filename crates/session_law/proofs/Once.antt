@@ -4,21 +4,12 @@ use Rattle.std.specs.Prelude.{find, unwrap_or}
 use Rattle.std.specs.List.{slice_get}
 use Rattle.std.specs.Option.{option_map, option_map_or}
 use Rattle.std.proofs.lemmas.Bool.{eqb-true, ltb-false, ltb-true}
-use Rattle.host_model.specs.Groups.{is_member}
-use Rattle.host_model.specs.Lists.{count}
-use Rattle.host_model.specs.Log.{request_at}
-use Rattle.host_group.specs.declared.group_end.GroupEnd.{GroupEnd}
-use Rattle.host_group.specs.declared.seat.CellSeat.{CellSeat}
-use Rattle.host_group.specs.declared.view.Member.{Member}
-use Rattle.host_group.specs.declared.view.Row.{Row}
-use Rattle.host_group.specs.Ends.{end_of, ends_of, instance_rows, members_of, row_of}
-use Rattle.host_group.specs.Seats.{admitted, back}
-use Rattle.host_group.specs.Views.{total}
+use Rattle.host_model.specs.{is_member, count, request_at}
+use Rattle.host_group.specs.{GroupEnd, CellSeat, Member, Row, end_of, ends_of, instance_rows, members_of, row_of, admitted, back}
+use Rattle.host_log.specs.{total}
 use Rattle.host_group.specs.Views as cell
-use Rattle.host_rings.specs.declared.slip.Slip.{Slip}
-use Rattle.host_intake.specs.Answers.{group_slip, row_slip}
-use Rattle.host_intake.specs.Entries.{Landing, Taking, is_landing_of, requests_of}
-use Rattle.host_intake.specs.Members.{Ending, is_of_member, landing_ending, member_at, members, row_ending}
+use Rattle.host_rings.specs.{Slip}
+use Rattle.host_intake.specs.{group_slip, row_slip, Landing, Taking, is_landing_of, requests_of, Ending, is_of_member, landing_ending, member_at, members, row_ending}
 use Rattle.host_session.proofs.Counting.{count-map}
 use Rattle.session_law.proofs.Ends.{few_ends}
 use Rattle.session_law.proofs.Finding.{find_place}

@@ -6,42 +6,22 @@ use Rattle.std.specs.Option.{option_eq}
 use Rattle.std.proofs.lemmas.Bool.{eqb-true}
 use Rattle.std.proofs.lemmas.List.{take-map, length-map}
 use Rattle.host_block.proofs.Places.{from_take, in_map}
-use Rattle.host_model.specs.declared.event.Event.{Event}
-use Rattle.host_model.specs.declared.event.Event.TheVariants.{Attached, NotAttached, Filled, Shown, Sent, Received, Drained, Aborted}
-use Rattle.host_model.specs.declared.memory.MemEntry.{MemEntry}
-use Rattle.host_model.specs.declared.memory.MemEvent.TheVariants.{Release}
-use Rattle.host_model.specs.declared.step.Step.{Step}
-use Rattle.host_model.specs.ClientEntries.{is_client}
-use Rattle.host_model.specs.ClientEntries.{told as host_told}
-use Rattle.host_model.specs.Laws.{IsInOrder, StandBefore}
-use Rattle.host_model.specs.Lists.{below, count, places}
-use Rattle.host_model.specs.Log.{sending, sent, sent_bytes}
-use Rattle.host_model.specs.Order.{client_places, entry_places, owner, step_places, told_by}
-use Rattle.host_model.specs.RecordEntries.{index_of}
+use Rattle.host_model.specs.{Event, Attached, NotAttached, Filled, Shown, Sent, Received, Drained, Aborted, MemEntry, Release, Step, is_client, told as host_told, IsInOrder, StandBefore, below, count, places, sending, sent, sent_bytes, client_places, entry_places, owner, step_places, told_by, index_of, is_end, close_of}
 use Rattle.host_model.specs.Session.{Session}
-use Rattle.host_model.specs.Taking.{is_end}
-use Rattle.host_model.specs.Verdict.{close_of}
 use Rattle.host_model.proofs.Ordering.{order_is_kept}
-use Rattle.host_rings.specs.declared.envelope.Envelope.{Envelope}
-use Rattle.host_intake.specs.Entries.{Landing, Taking, landings, request_in, takings}
-use Rattle.host_intake.specs.Takings.{made}
+use Rattle.host_rings.specs.{Envelope}
+use Rattle.host_intake.specs.{Landing, Taking, landings, request_in, takings, made}
 use Rattle.host_intake.proofs.Verdicts.{numbered_place}
-use Rattle.host_session.specs.declared.fronts.Fronts.{Fronts}
-use Rattle.host_session.specs.declared.hand.SessionHand.{SessionHand}
-use Rattle.host_session.specs.Acts.{Act, entry_place}
-use Rattle.host_session.specs.Client.{AreWithin, ClientState, slip_fronts}
-use Rattle.session_law.specs.Fronts.{DoFrontsRise, envelope_fronts}
-use Rattle.session_law.specs.Gathered.{EndsDrained, IsGathered}
-use Rattle.session_law.specs.Handing.{PushedAsTold}
-use Rattle.session_law.specs.Hands.{Ended, KeepFronts, steps_in}
-use Rattle.session_law.specs.Ordering.{OrderKept}
+use Rattle.host_session.specs.{Fronts, SessionHand, Act, entry_place, AreWithin, ClientState, slip_fronts}
+use Rattle.session_law.specs.{DoFrontsRise, envelope_fronts, EndsDrained, IsSessionGathered, PushedAsTold, Ended, KeepFronts, steps_in, OrderKept}
 use Rattle.session_law.proofs.Closers.{IsClosing}
 use Rattle.session_law.proofs.Draining.{drains_come_last}
 use Rattle.session_law.proofs.Due.{all_landed, log_acts}
 use Rattle.session_law.proofs.Gathered.{course, envelope_at, sent_count, taken_whole}
 use Rattle.session_law.proofs.Had.{IsHad, had}
 use Rattle.session_law.proofs.Owners.{IsCloseEntry, client_none, close_says, close_taken, hand_is, late_release, own_entry, owner_cases, release_place, released_by_taken}
-use Rattle.session_law.proofs.Places.{found_at, from_drop, has_found, none_told, only_at, some_at, unrank}
+use Rattle.session_law.proofs.Places.{found_at, from_drop, has_found, none_told, only_at, unrank}
+use Rattle.host_log.proofs.Places.{some_at}
 use Rattle.session_law.proofs.Prefixes.{count_between}
 use Rattle.session_law.proofs.Released.{entry_at, one_release}
 use Rattle.session_law.proofs.Returned.{landing_at}
@@ -63,7 +43,7 @@ goes_on (Received bytes) b s = refl
 goes_on Drained b s = absurd (cc)
 goes_on Aborted b s = absurd (cc)
 
-module _ (client : ClientState) (hands : List SessionHand) (h : List MemEntry) (steps : List Step) (s : Session) (g : IsGathered client hands h s) (drained : EndsDrained client) (told : PushedAsTold hands g.whole.intake.entries)
+module _ (client : ClientState) (hands : List SessionHand) (h : List MemEntry) (steps : List Step) (s : Session) (g : IsSessionGathered client hands h s) (drained : EndsDrained client) (told : PushedAsTold hands g.whole.intake.entries)
     (keeps : KeepFronts client.plan.spec.number client.plan.hands (takings g.whole.intake.entries) (landings g.whole.intake.entries) h steps) where
   abbrev ts : List Taking
   ts = takings g.whole.intake.entries

@@ -5,20 +5,12 @@ use Rattle.std.specs.List.{range_with_len, slice_get}
 use Rattle.std.specs.Option.{option_eq}
 use Rattle.std.proofs.lemmas.Bool.{eqb-true, ltb-false, ltb-true}
 use Rattle.host_block.specs.declared.range.Range.{Range}
-use Rattle.host_record.specs.declared.opcode.Opcode.{Opcode}
-use Rattle.host_record.specs.declared.opcode.Opcode.TheVariants.{Read, Write, Flush, Trim, Close}
-use Rattle.host_record.specs.Command.{opcode}
-use Rattle.host_model.specs.declared.memory.MemEntry.{MemEntry}
-use Rattle.host_model.specs.declared.memory.MemEvent.{MemEvent}
-use Rattle.host_model.specs.declared.memory.MemEvent.TheVariants.{Pin, Release}
+use Rattle.host_record.specs.{Opcode, Read, Write, Flush, Trim, Close, opcode}
+use Rattle.host_model.specs.{MemEntry, MemEvent, Pin, Release, Accepted, Refused, count, index_of}
 use Rattle.host_model.specs.declared.memory.MemEvent.TheVariants as mem
 use Rattle.host_model.specs.declared.verdict.Verdict.{Verdict}
-use Rattle.host_model.specs.declared.verdict.Verdict.TheVariants.{Accepted, Refused}
-use Rattle.host_model.specs.Lists.{count}
-use Rattle.host_model.specs.RecordEntries.{index_of}
-use Rattle.host_turn.specs.History.{entries_of}
-use Rattle.host_intake.specs.Entries.{Taking, place_of, request_in}
-use Rattle.host_intake.specs.Takings.{AreTaken, left_by, made, made_for, made_under, under}
+use Rattle.host_log.specs.{entries_of}
+use Rattle.host_intake.specs.{Taking, place_of, request_in, AreTaken, left_by, made, made_for, made_under, under}
 use Rattle.session_law.proofs.Released.{left_at, own_left}
 use Rattle.session_law.proofs.Sums.{bit, count_both, count_one, counted_here}
 

@@ -6,43 +6,23 @@ use Rattle.std.proofs.lemmas.Bool.{eqb-true, ltb-false, ltb-true}
 use Rattle.std.proofs.lemmas.List.{length-map}
 use Rattle.std.proofs.lemmas.Option.{get_or_from_slice_get}
 use Rattle.host_block.proofs.Places.{from_take, in_map, within}
-use Rattle.host_record.specs.declared.finish.Finish.TheVariants.{Drain}
-use Rattle.host_record.specs.declared.opcode.Opcode.{Opcode}
-use Rattle.host_record.specs.declared.opcode.Opcode.TheVariants.{Read, Write, Flush, Trim, Close}
+use Rattle.host_record.specs.{Drain, Opcode, Read, Write, Flush, Trim, Close, is_close, opcode, request_of}
 use Rattle.host_record.specs.declared.request.Request.{Request}
-use Rattle.host_record.specs.Command.{is_close, opcode}
-use Rattle.host_record.specs.Request.{request_of}
-use Rattle.host_model.specs.declared.event.Event.{Event}
-use Rattle.host_model.specs.declared.event.Event.TheVariants.{Drained}
-use Rattle.host_model.specs.declared.memory.MemEntry.{MemEntry}
-use Rattle.host_model.specs.declared.memory.MemEvent.{MemEvent}
-use Rattle.host_model.specs.declared.memory.MemEvent.TheVariants.{Attach, Fill, Show, Pin, Lift, Land, Done, Release}
+use Rattle.host_model.specs.{Event, Drained, MemEntry, MemEvent, Attach, Fill, Show, Pin, Lift, Land, Done, Release, Accepted, Refused, given_before, request_at, requests, sent, owner, index_of, is_end, close_in, close_of, closes, verdict_after, verdicts_on}
 use Rattle.host_model.specs.declared.memory.MemEvent.TheVariants as mem
 use Rattle.host_model.specs.declared.verdict.Verdict.{Verdict}
-use Rattle.host_model.specs.declared.verdict.Verdict.TheVariants.{Accepted, Refused}
-use Rattle.host_model.specs.Log.{given_before, request_at, requests, sent}
-use Rattle.host_model.specs.Order.{owner}
-use Rattle.host_model.specs.RecordEntries.{index_of}
 use Rattle.host_model.specs.Session.{Session}
-use Rattle.host_model.specs.Taking.{is_end}
-use Rattle.host_model.specs.Verdict.{close_in, close_of, closes, verdict_after, verdicts_on}
-use Rattle.host_memory.specs.Held.{closer_of}
-use Rattle.host_memory.specs.Numbers.{is_numbered}
-use Rattle.host_memory.specs.State.{events}
-use Rattle.host_turn.specs.History.{entries_of}
-use Rattle.host_intake.specs.Entries.{Taking, place_of, request_in, requests_of}
-use Rattle.host_intake.specs.Takings.{left_by, made, made_for, made_under, under}
+use Rattle.host_memory.specs.{closer_of, is_numbered, events}
+use Rattle.host_log.specs.{entries_of}
+use Rattle.host_intake.specs.{Taking, place_of, request_in, requests_of, left_by, made, made_for, made_under, under}
 use Rattle.host_intake.proofs.Readiness.{all_at}
-use Rattle.host_session.specs.declared.hand.SessionHand.{SessionHand}
-use Rattle.host_session.specs.Acts.{Act, before_drained, fronts_after, log_of}
-use Rattle.host_session.specs.Client.{ClientState, ends_logged, is_drained}
-use Rattle.host_session.specs.Told.{is_by_client, is_release}
-use Rattle.session_law.specs.Gathered.{EndsDrained, IsGathered, ReleaseClosed}
+use Rattle.host_session.specs.{SessionHand, Act, before_drained, fronts_after, log_of, ClientState, ends_logged, is_drained, is_by_client, is_release}
+use Rattle.session_law.specs.{EndsDrained, IsSessionGathered, ReleaseClosed}
 use Rattle.session_law.proofs.Closers.{IsClosing, close_found, close_is, closes_by, closing_from, closing_says, verdict_there}
 use Rattle.session_law.proofs.Drained.{before_drain}
 use Rattle.session_law.proofs.Gathered.{closed, course, index_is, requests_are, taken_few, taken_whole, ts_of}
 use Rattle.session_law.proofs.Own.{IsOwn, own_place}
-use Rattle.session_law.proofs.Places.{in_filter}
+use Rattle.host_log.proofs.Places.{in_filter}
 use Rattle.session_law.proofs.Released.{close_place, event_at, left_at, none_there, one_release, released_closed}
 use Rattle.session_law.proofs.Taken.{row_count, sent_verdicts, taken_verdicts}
 
@@ -104,7 +84,7 @@ close_made t v c w = step t.verdict (opcode (request_in t)) t.waits c.accepted c
     step Accepted (Some Close) true e f k = absurd (cc)
     step Accepted (Some Close) false e f k = ap (λ n. mem.Close (place_of t) n ∷ Release n ∷ []) c.buffer
 
-module _ (client : ClientState) (hands : List SessionHand) (h : List MemEntry) (s : Session) (g : IsGathered client hands h s) (drained : EndsDrained client) (due : ReleaseClosed client.plan.hands h) where
+module _ (client : ClientState) (hands : List SessionHand) (h : List MemEntry) (s : Session) (g : IsSessionGathered client hands h s) (drained : EndsDrained client) (due : ReleaseClosed client.plan.hands h) where
   -- ---- verdicts and closes
 
   requests_many : length (requests s.log) ≡ length (sent s.log)

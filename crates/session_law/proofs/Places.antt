@@ -1,12 +1,10 @@
 -- Elements of lists, and where they stand.
-use Rattle.std.proofs.Common.{◌≡◌, ℕ, zero, suc, ◌+◌, ◌<◌, ◌≤◌, Bool, true, false, ◌||◌, cond, List, [], ◌∷◌, ◌++◌, length, filter, filter_map, take, drop, Option, Some, None, refl, sym, ap, ◌∙◌, arith, append-nil, append_assoc, length-append}
-use Rattle.std.proofs.Math.Bool.{or-true}
-use Rattle.std.specs.Prelude.{unwrap_or}
-use Rattle.std.specs.List.{cons_option, list_any, slice_get}
+use Rattle.std.proofs.Common.{◌≡◌, ℕ, zero, suc, ◌+◌, ◌≤◌, Bool, true, false, cond, List, [], ◌∷◌, ◌++◌, length, filter, filter_map, take, drop, Option, Some, None, refl, sym, ap, ◌∙◌, arith, append-nil, append_assoc, length-append}
+use Rattle.std.specs.List.{cons_option, slice_get}
 use Rattle.std.proofs.lemmas.List.{take-append-drop, take-take}
 use Rattle.std.proofs.lemmas.List.Elements.{filter_map-append}
 use Rattle.host_block.proofs.Places.{from_take}
-use Rattle.host_model.specs.Lists.{all_after, places_from}
+use Rattle.host_model.specs.{all_after, places_from}
 use Rattle.host_model.proofs.ListTests.{both}
 
 module _ {A : Type 0} where
@@ -25,21 +23,9 @@ module _ {A : Type 0} where
   one_before (y ∷ ys) (suc m) zero x at le = absurd (omega arith)
   one_before (y ∷ ys) (suc m) (suc n) x at le = one_before ys m n x at (omega arith)
 
-  pub some_at : (xs : List A) (n : ℕ) → n < length xs → (x : A) × (slice_get xs n ≡ Some x)
-  some_at [] n h = absurd (omega arith)
-  some_at (x ∷ xs) zero h = (x, refl)
-  some_at (x ∷ xs) (suc n) h = some_at xs n (omega arith)
-
   -- one element stands at a place
   pub only_at : (xs : List A) (n : ℕ) (x y : A) → slice_get xs n ≡ Some x → slice_get xs n ≡ Some y → x ≡ y
   only_at xs n x y e f = cc
-
-  -- an element of the first list stands in both together
-  pub in_front : (xs ys : List A) (n : ℕ) (x : A) → slice_get xs n ≡ Some x → slice_get (xs ++ ys) n ≡ Some x
-  in_front [] ys zero x e = absurd (cc)
-  in_front [] ys (suc n) x e = absurd (cc)
-  in_front (y ∷ xs) ys zero x e = e
-  in_front (y ∷ xs) ys (suc n) x e = in_front xs ys n x e
 
   pub from_drop : (xs : List A) (n k : ℕ) (x : A) → slice_get (drop n xs) k ≡ Some x → slice_get xs (n + k) ≡ Some x
   from_drop [] zero zero x e = absurd (cc)
@@ -54,12 +40,6 @@ module _ {A : Type 0} where
   from_part xs n m k x part e at = from_drop xs n k x (from_take (drop n xs) m k x (ap (λ l. slice_get l k) e ∙ at)).0
 
   -- ---- tests
-
-  pub any_here : (p : A → Bool) (xs : List A) (n : ℕ) (x : A) → slice_get xs n ≡ Some x → p x ≡ true → list_any p xs ≡ true
-  any_here p [] zero x e y = absurd (cc)
-  any_here p [] (suc n) x e y = absurd (cc)
-  any_here p (z ∷ zs) zero x e y = ap (λ b. b || list_any p zs) (ap (λ (o : Option A). p (unwrap_or o z)) e ∙ y)
-  any_here p (z ∷ zs) (suc n) x e y = ap (λ b. p z || b) (any_here p zs n x e y) ∙ or-true (p z)
 
   -- the element at a place passes with those before it
   after_at : (test : List A → A → Bool) (before xs : List A) (n : ℕ) (x : A) → all_after test before xs ≡ true → slice_get xs n ≡ Some x → test (before ++ take n xs) x ≡ true
@@ -105,9 +85,6 @@ module _ {A : Type 0} where
       step true t zero e more = let q : a ≡ m = cc in (0, y, omega arith, refl, t, refl)
       step true t (suc i) e more = let r = more i e in (suc r.0, r.1, (let q = r.2 in omega arith), r.3, r.4, r.5)
       step false t i e more = let r = more i e in (suc r.0, r.1, (let q = r.2 in omega arith), r.3, r.4, r.5)
-
-  pub in_filter : (p : A → Bool) (xs : List A) (n : ℕ) (x : A) → slice_get xs n ≡ Some x → p x ≡ true → (j : ℕ) × (slice_get (filter p xs) j ≡ Some x)
-  in_filter p xs n x at is = let r = rank p 0 xs n x at is in (r.0, r.1)
 
   -- ---- what is told of some elements
 

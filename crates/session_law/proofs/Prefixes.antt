@@ -1,27 +1,14 @@
 -- Requests as more are sent: which record answers which.
-use Rattle.std.proofs.Common.{◌≡◌, ◌⊎◌, inl, inr, ℕ, zero, suc, ◌+◌, ◌≤◌, ◌<◌, ◌==◌, Bool, true, false, not, ◌&&◌, ◌||◌, nat_lt, cond, List, [], ◌∷◌, ◌++◌, length, take, drop, Some, None, refl, sym, ap, ap₂, ◌∙◌, arith, eq-eqb}
+use Rattle.std.proofs.Common.{◌≡◌, ◌⊎◌, inl, inr, ℕ, zero, suc, ◌+◌, ◌≤◌, ◌<◌, ◌==◌, Bool, true, false, not, ◌&&◌, ◌||◌, nat_lt, cond, List, [], ◌∷◌, ◌++◌, length, take, drop, Some, None, refl, sym, ap, ◌∙◌, arith, eq-eqb}
 use Rattle.std.specs.List.{slice_get}
-use Rattle.std.proofs.Math.ListN.{get_or-append}
 use Rattle.std.proofs.lemmas.Bool.{eqb-true, ltb-false, ltb-true}
-use Rattle.std.proofs.lemmas.List.{take-append-drop, take-append-le, take-take}
+use Rattle.std.proofs.lemmas.List.{take-append-drop, take-take}
 use Rattle.host_record.specs.declared.request.Request.{Request}
-use Rattle.host_record.specs.Request.{request_of}
-use Rattle.host_model.specs.Groups.{answers_for, closings, instance_of, is_closing, is_member, is_owing, same_instance}
-use Rattle.host_model.specs.Lists.{count}
-use Rattle.host_model.specs.Log.{request_at}
-use Rattle.session_law.proofs.Places.{some_at, take_one}
+use Rattle.host_model.specs.{answers_for, closings, is_closing, is_member, is_owing, same_instance, count, request_at}
+use Rattle.session_law.proofs.Places.{take_one}
+use Rattle.host_log.proofs.Places.{some_at}
 use Rattle.session_law.proofs.Sums.{bit, count_both, count_one}
-
-module _ (rs more : List Request) where
-  instance_before : (k : ℕ) → k < length rs → instance_of (rs ++ more) k ≡ instance_of rs k
-  instance_before k h =
-      ap (λ (r : Request). cond (is_member r) (Some (r.group, closings r.group (take k (rs ++ more)))) None) (get_or-append rs more (request_of []) k h)
-      ∙ ap (λ (l : List Request). cond (is_member (request_at rs k)) (Some ((request_at rs k).group, closings (request_at rs k).group l)) None) (take-append-le k rs more (omega (arith, h)))
-
-  pub answers_before : (i k : ℕ) → i < length rs → k < length rs → answers_for (rs ++ more) i k ≡ answers_for rs i k
-  answers_before i k hi hk =
-      ap (λ (r : Request). cond (is_member r) (is_closing r && same_instance (instance_of (rs ++ more) i) (instance_of (rs ++ more) k)) (i == k)) (get_or-append rs more (request_of []) i hi)
-      ∙ ap₂ (λ a b. cond (is_member (request_at rs i)) (is_closing (request_at rs i) && same_instance a b) (i == k)) (instance_before i hi) (instance_before k hk)
+use Rattle.host_log.proofs.Bools.{and_parts, either_way, and_both}
 
 -- ---- a record answers those before it
 
@@ -50,11 +37,6 @@ pub record IsSameInstance (rs : List Request) (i k : ℕ) : Type 0 where
 pub answers_split : (rs : List Request) (i k : ℕ) → answers_for rs i k ≡ true → (is_member (request_at rs i) ≡ true) × IsSameInstance rs i k ⊎ (is_member (request_at rs i) ≡ false) × (i ≡ k)
 answers_split rs i k e = step (is_member (request_at rs i)) (is_closing (request_at rs i)) (is_member (request_at rs k)) refl refl refl e
   where
-    parts : (b c : Bool) → (b && c) ≡ true → (b ≡ true) × (c ≡ true)
-    parts true true f = (refl, refl)
-    parts true false f = absurd (cc)
-    parts false c f = absurd (cc)
-
     step : (b c d : Bool) → is_member (request_at rs i) ≡ b → is_closing (request_at rs i) ≡ c → is_member (request_at rs k) ≡ d
         → cond b (c && same_instance (cond b (Some ((request_at rs i).group, closings (request_at rs i).group (take i rs))) None) (cond d (Some ((request_at rs k).group, closings (request_at rs k).group (take k rs))) None)) (i == k) ≡ true
         → (b ≡ true) × IsSameInstance rs i k ⊎ (b ≡ false) × (i ≡ k)
@@ -62,7 +44,7 @@ answers_split rs i k e = step (is_member (request_at rs i)) (is_closing (request
     step true false d p q r f = absurd (cc)
     step true true false p q r f = absurd (cc)
     step true true true p q r f =
-        let t = parts ((request_at rs i).group == (request_at rs k).group) (closings (request_at rs i).group (take i rs) == closings (request_at rs k).group (take k rs)) f in
+        let t = and_parts ((request_at rs i).group == (request_at rs k).group) (closings (request_at rs i).group (take i rs) == closings (request_at rs k).group (take k rs)) f in
         inl (
           refl,
           record {
@@ -76,12 +58,8 @@ answers_split rs i k e = step (is_member (request_at rs i)) (is_closing (request
 pub owing_from : (rs : List Request) (i k : ℕ) → answers_for rs i k ≡ true → is_owing (request_at rs i) ≡ true
 owing_from rs i k e = step (answers_split rs i k e)
   where
-    either : (b c : Bool) → c ≡ true → (not b || c) ≡ true
-    either true c f = f
-    either false c f = refl
-
     step : (is_member (request_at rs i) ≡ true) × IsSameInstance rs i k ⊎ (is_member (request_at rs i) ≡ false) × (i ≡ k) → is_owing (request_at rs i) ≡ true
-    step (inl s) = either (is_member (request_at rs i)) (is_closing (request_at rs i)) s.1.closing
+    step (inl s) = either_way (is_member (request_at rs i)) (is_closing (request_at rs i)) s.1.closing
     step (inr s) = ap (λ b. not b || is_closing (request_at rs i)) s.0
 
 pub answers_earlier : (rs : List Request) (i k : ℕ) → i < length rs → answers_for rs i k ≡ true → k ≤ i
@@ -90,16 +68,13 @@ answers_earlier rs i k lt e = step (answers_split rs i k e)
     test : ℕ → Request → Bool
     test g r = is_closing r && r.group == g
 
-    passes : (b c : Bool) → b ≡ true → c ≡ true → (b && c) ≡ true
-    passes b c e f = ap (λ x. x && c) e ∙ f
-
     later : IsSameInstance rs i k → i < k → ⊥
     later s more =
         let r : Request = request_at rs i in let g : ℕ = r.group in
         let at = some_at rs i lt in
         let here : at.0 ≡ request_at rs i = same_at rs i at.0 at.1 in
         let is : (is_closing at.0 && at.0.group == (request_at rs i).group) ≡ true =
-        ap (λ (w : Request). is_closing w && w.group == (request_at rs i).group) here ∙ passes (is_closing (request_at rs i)) ((request_at rs i).group == (request_at rs i).group) s.closing (eq-eqb (request_at rs i).group (request_at rs i).group refl) in
+        ap (λ (w : Request). is_closing w && w.group == (request_at rs i).group) here ∙ and_both (is_closing (request_at rs i)) ((request_at rs i).group == (request_at rs i).group) s.closing (eq-eqb (request_at rs i).group (request_at rs i).group refl) in
         let c = count_between (λ (w : Request). is_closing w && w.group == (request_at rs i).group) rs i k at.0 at.1 is more in
         let d : closings (request_at rs i).group (take i rs) ≡ closings (request_at rs i).group (take k rs) = s.instance ∙ ap (λ n. closings n (take k rs)) (sym s.group) in
         omega (arith, c, d)

@@ -6,14 +6,11 @@ use Rattle.std.proofs.lemmas.Bool.{ltb-true}
 use Rattle.std.proofs.lemmas.List.{take-append-drop, take-map, take_at}
 use Rattle.std.proofs.lemmas.List.Elements.{filter_map-append}
 use Rattle.host_block.proofs.Places.{from_take}
-use Rattle.host_model.specs.declared.event.Event.{Event}
-use Rattle.host_model.specs.declared.event.Event.TheVariants.{Attached, NotAttached, Filled, Shown, Sent, Received, Drained, Aborted}
-use Rattle.host_model.specs.declared.memory.MemEntry.{MemEntry}
-use Rattle.host_model.specs.Log.{received, received_bytes, sent}
+use Rattle.host_model.specs.{Event, Attached, NotAttached, Filled, Shown, Sent, Received, Drained, Aborted, MemEntry, received, received_bytes, sent}
 use Rattle.host_model.proofs.ListTests.{both}
-use Rattle.host_record.specs.Response.{response_of}
-use Rattle.host_rings.specs.declared.slip.Slip.{Slip}
-use Rattle.host_session.specs.Acts.{Act, IsAct, IsEventAfter, log_of, slips_of}
+use Rattle.host_record.specs.{response_of}
+use Rattle.host_rings.specs.{Slip}
+use Rattle.host_session.specs.{Act, IsAct, IsEventAfter, log_of, slips_of}
 use Rattle.session_law.proofs.Places.{found_at}
 use Rattle.session_law.proofs.Sending.{none_is, sent_until}
 

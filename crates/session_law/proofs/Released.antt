@@ -1,6 +1,6 @@
 -- A buffer that was released, but not by the client, had been closed by a record.
-use Rattle.std.proofs.Common.{◌≡◌, ◌⊎◌, inl, inr, ℕ, zero, suc, ◌+◌, ◌<◌, ◌≤◌, ◌==◌, Bool, true, false, not, nat_lt, List, [], ◌∷◌, ◌++◌, filter_map, length, take, Option, Some, None, refl, sym, ap, ◌∙◌, arith, eq-eqb}
-use Rattle.std.specs.Prelude.{flat_map, is_some, unwrap_or}
+use Rattle.std.proofs.Common.{◌≡◌, ◌⊎◌, inl, inr, ℕ, zero, suc, ◌+◌, ◌<◌, ◌≤◌, ◌==◌, Bool, true, false, not, nat_lt, List, [], ◌∷◌, filter_map, length, take, Option, Some, None, refl, sym, ap, ◌∙◌, arith, eq-eqb}
+use Rattle.std.specs.Prelude.{is_some, unwrap_or}
 use Rattle.std.specs.Bool.{then_some}
 use Rattle.std.specs.List.{cons_option, list_any, slice_get}
 use Rattle.std.specs.Option.{option_map}
@@ -8,24 +8,17 @@ use Rattle.std.proofs.lemmas.Bool.{eqb-true, ltb-false, ltb-true}
 use Rattle.std.proofs.lemmas.Option.{slice_get-map}
 use Rattle.host_block.specs.declared.range.Range.{Range}
 use Rattle.host_block.proofs.Places.{from_take, in_take}
-use Rattle.host_record.specs.declared.opcode.Opcode.{Opcode}
-use Rattle.host_record.specs.declared.opcode.Opcode.TheVariants.{Read, Write, Flush, Trim, Close}
-use Rattle.host_record.specs.Command.{opcode}
-use Rattle.host_model.specs.declared.memory.MemEntry.{MemEntry}
-use Rattle.host_model.specs.declared.memory.MemEvent.{MemEvent}
-use Rattle.host_model.specs.declared.memory.MemEvent.TheVariants.{Attach, Fill, Show, Pin, Lift, Land, Done, Release}
+use Rattle.host_record.specs.{Opcode, Read, Write, Flush, Trim, Close, opcode}
+use Rattle.host_model.specs.{MemEntry, MemEvent, Attach, Fill, Show, Pin, Lift, Land, Done, Release, Accepted, Refused, all_with_before, comes_before_release, is_release_of}
 use Rattle.host_model.specs.declared.memory.MemEvent.TheVariants as mem
 use Rattle.host_model.specs.declared.verdict.Verdict.{Verdict}
-use Rattle.host_model.specs.declared.verdict.Verdict.TheVariants.{Accepted, Refused}
-use Rattle.host_model.specs.Lists.{all_with_before}
-use Rattle.host_model.specs.Releases.{comes_before_release, is_release_of}
-use Rattle.host_memory.specs.Held.{closer_by, closer_of}
-use Rattle.host_memory.specs.State.{events}
-use Rattle.host_turn.specs.History.{entries_of}
-use Rattle.host_intake.specs.Entries.{Taking, place_of, request_in}
-use Rattle.host_intake.specs.Takings.{AreTaken, left_by, made, made_for, made_under, under}
-use Rattle.session_law.specs.Gathered.{ReleaseClosed}
-use Rattle.session_law.proofs.Places.{any_here, found_at, from_part, in_filter, with_before_at}
+use Rattle.host_memory.specs.{closer_by, closer_of, events}
+use Rattle.host_log.specs.{entries_of}
+use Rattle.host_intake.specs.{Taking, place_of, request_in, AreTaken, left_by, made, made_for, made_under, under}
+use Rattle.session_law.specs.{ReleaseClosed}
+use Rattle.session_law.proofs.Places.{found_at, from_part, with_before_at}
+use Rattle.host_log.proofs.Places.{any_here, in_filter}
+use Rattle.host_intake.proofs.Verdicts.{in_flat, some_then}
 
 -- ---- events and entries
 
@@ -55,12 +48,8 @@ release_is v (Land index k id block bytes) e = absurd (cc)
 release_is v (Done index id) e = absurd (cc)
 release_is v (mem.Close index id) e = absurd (cc)
 
-then_is : (b : Bool) (i j : ℕ) → then_some b i ≡ Some j → (b ≡ true) × (i ≡ j)
-then_is true i j e = (refl, ap (λ (o : Option ℕ). unwrap_or o i) e)
-then_is false i j e = absurd (cc)
-
 pub closer_is : (v i : ℕ) (w : MemEvent) → closer_by v w ≡ Some i → w ≡ mem.Close i v
-closer_is v i (mem.Close index id) e = let r = then_is (id == v) index i e in let same : id ≡ v = eqb-true id v r.0 in let j : index ≡ i = r.1 in cc
+closer_is v i (mem.Close index id) e = let r = some_then (id == v) index i e in let same : id ≡ v = eqb-true id v r.0 in let j : index ≡ i = r.1 in cc
 closer_is v i (Release id) e = absurd (cc)
 closer_is v i (Attach id pages from) e = absurd (cc)
 closer_is v i (Fill id block count byte) e = absurd (cc)
@@ -168,23 +157,6 @@ release_left Accepted (Some Close) i id hand false number v (suc zero) e at is =
       both = ap (λ n. record { hand = number; what = mem.Close i n } ∷ record { hand = number; what = Release n } ∷ []) w;
     }
 release_left Accepted (Some Close) i id hand false number v (suc (suc m)) e at is = absurd (cc)
-
--- ---- an element of some lists put together
-
-get_front : {A : Type 0} (xs ys : List A) (n : ℕ) (x : A) → slice_get (xs ++ ys) n ≡ Some x → (slice_get xs n ≡ Some x) ⊎ ((m : ℕ) × (slice_get ys m ≡ Some x))
-get_front [] ys n x e = inr (n, e)
-get_front (y ∷ xs) ys zero x e = inl e
-get_front (y ∷ xs) ys (suc n) x e = get_front xs ys n x e
-
-pub in_flat : {A B : Type 0} (f : B → List A) (us : List B) (n : ℕ) (x : A) → slice_get (flat_map f us) n ≡ Some x → (k : ℕ) × (u : B) × (m : ℕ) × (slice_get us k ≡ Some u) × (slice_get (f u) m ≡ Some x)
-in_flat f [] zero x e = absurd (cc)
-in_flat f [] (suc n) x e = absurd (cc)
-in_flat {A} {B} f (u ∷ us) n x e = step (get_front (f u) (flat_map f us) n x e) (λ m h. in_flat f us m x h)
-  where
-    step : (slice_get (f u) n ≡ Some x) ⊎ ((m : ℕ) × (slice_get (flat_map f us) m ≡ Some x)) → ((m : ℕ) → slice_get (flat_map f us) m ≡ Some x → (k : ℕ) × (w : B) × (m : ℕ) × (slice_get us k ≡ Some w) × (slice_get (f w) m ≡ Some x))
-        → (k : ℕ) × (w : B) × (m : ℕ) × (slice_get (u ∷ us) k ≡ Some w) × (slice_get (f w) m ≡ Some x)
-    step (inl h) more = (0, u, n, refl, h)
-    step (inr h) more = let r = more h.0 h.1 in (suc r.0, r.1, r.2, r.3, r.4)
 
 -- ---- the admissions' releases
 

@@ -6,32 +6,19 @@ use Rattle.std.proofs.lemmas.Bool.{eqb-true, leb-true, ltb-false, ltb-true}
 use Rattle.std.proofs.lemmas.List.{get_or_past, length-map}
 use Rattle.host_block.proofs.Places.{any_at, in_map, range_at}
 use Rattle.host_record.specs.declared.request.Request.{Request}
-use Rattle.host_record.specs.Command.{is_grouped}
-use Rattle.host_record.specs.Request.{request_of}
-use Rattle.host_model.specs.declared.row.TakenRow.{TakenRow}
-use Rattle.host_model.specs.Groups.{is_member}
-use Rattle.host_model.specs.Lists.{below, count}
-use Rattle.host_model.specs.Log.{request_at}
-use Rattle.host_model.specs.Taking.{row_at}
-use Rattle.host_group.specs.declared.group_end.GroupEnd.{GroupEnd}
-use Rattle.host_group.specs.declared.seat.CellSeat.{CellSeat}
-use Rattle.host_group.specs.declared.view.Member.{Member}
-use Rattle.host_group.specs.declared.view.Row.{Row}
-use Rattle.host_group.specs.Ends.{AreThoseAdmitted, HasItsEnd, HaveRows, IsEnd, end_of, ends_of, instance_rows, members_of, row_of}
-use Rattle.host_group.specs.Seats.{admitted, back}
-use Rattle.host_group.specs.Views.{total}
+use Rattle.host_record.specs.{is_grouped, request_of}
+use Rattle.host_model.specs.{TakenRow, is_member, below, count, request_at, row_at}
+use Rattle.host_group.specs.{GroupEnd, CellSeat, Member, Row, AreThoseAdmitted, HasItsEnd, HaveRows, IsEnd, end_of, ends_of, instance_rows, members_of, row_of, admitted, back}
 use Rattle.host_group.specs.Views as cell
-use Rattle.host_intake.specs.Entries.{Landing, Taking, is_landing_of, place_of, request_in, requests_of}
-use Rattle.host_intake.specs.Laws.{HaveOutcomes}
-use Rattle.host_intake.specs.Members.{AreInCells, AreLanded, Ending, backs, is_member_at, is_of_member, is_right_out, landing_ending, member_at, members, row_ending}
-use Rattle.host_intake.specs.Told.{is_open, row_in}
+use Rattle.host_intake.specs.{Landing, Taking, is_landing_of, place_of, request_in, requests_of, HaveOutcomes, AreInCells, AreLanded, Ending, backs, is_member_at, is_of_member, is_right_out, landing_ending, member_at, members, row_ending, is_open, row_in}
 use Rattle.host_session.proofs.Times.{range_once}
 use Rattle.session_law.proofs.Ends.{in_ends, in_members_of, member_says, member_there}
 use Rattle.session_law.proofs.Finding.{from_map, in_reverse}
 use Rattle.session_law.proofs.Landings.{find_here, landing_taken, outcome_is, row_outcome}
 use Rattle.session_law.proofs.Lending.{eq_flip}
-use Rattle.session_law.proofs.Places.{in_filter, some_at}
+use Rattle.host_log.proofs.Places.{some_at, in_filter}
 use Rattle.session_law.proofs.Sums.{count_within, counted_none}
+use Rattle.host_log.proofs.Bools.{and_left, not_false}
 
 -- All records taken have ended, and all rights came back.
 pub record AreAllLanded (ts : List Taking) (ls : List Landing) (seat : CellSeat) : Type 0 where
@@ -80,12 +67,8 @@ module _ (ts : List Taking) (ls : List Landing) (seat : CellSeat) (a : AreAllLan
   alike x =
       let out : backs (λ i. i == x) (back seat) + count (λ i. (i == x) && is_right_out (requests_of ts) ls i) (below (length ts)) ≡ count (λ i. (i == x) && is_member_at (requests_of ts) i) (below (length ts)) = a.cells.out (λ i. i == x) in
       let few : count (λ i. (i == x) && is_member_at (requests_of ts) i) (below (length ts)) ≤ count (nat_eq x) (below (length ts)) =
-      count_within (λ i. (i == x) && is_member_at (requests_of ts) i) (nat_eq x) (below (length ts)) (λ n i _ e. sym (eq_flip i x) ∙ left (i == x) (is_member_at (requests_of ts) i) e) in
+      count_within (λ i. (i == x) && is_member_at (requests_of ts) i) (nat_eq x) (below (length ts)) (λ n i _ e. sym (eq_flip i x) ∙ and_left (i == x) (is_member_at (requests_of ts) i) e) in
       omega (arith, out, few, range_once x 0 (length ts))
-    where
-      left : (b c : Bool) → (b && c) ≡ true → b ≡ true
-      left true c e = refl
-      left false c e = absurd (cc)
 
   pub row_is : (k : ℕ) (q : Row) → slice_get (back seat) k ≡ Some q → row_of (back seat) q.member ≡ q
   row_is k q at =
@@ -106,12 +89,8 @@ module _ (ts : List Taking) (ls : List Landing) (seat : CellSeat) (a : AreAllLan
       let none : count (is_open ls) (below (length ts)) ≡ 0 = let o = a.landed.once in let e = a.all in omega arith in
       let z : 0 + i ≡ i = omega arith in
       let closed : not (list_any (is_landing_of i) ls) ≡ false = counted_none (is_open ls) (below (length ts)) i i none (range_at 0 (length ts) i lt ∙ ap Some z) in
-      let r = any_at (is_landing_of i) ls (opened (list_any (is_landing_of i) ls) closed) in
+      let r = any_at (is_landing_of i) ls (not_false (list_any (is_landing_of i) ls) closed) in
       (r.0, r.1, r.2, eqb-true r.1.index i r.3)
-    where
-      opened : (b : Bool) → not b ≡ false → b ≡ true
-      opened true e = refl
-      opened false e = absurd (cc)
 
   pub outcome_at : (k : ℕ) (l : Landing) → slice_get ls k ≡ Some l → (row_at (map (row_in ls) ts) l.index).outcome ≡ l.end.outcome
   outcome_at k l at =
@@ -154,7 +133,7 @@ module _ (ts : List Taking) (ls : List Landing) (seat : CellSeat) (a : AreAllLan
       let row : slice_get (map (row_of (back seat)) (members_of g j ms)) inside.0 ≡ Some q = in_map (row_of (back seat)) (members_of g j ms) inside.0 q.member inside.1 ∙ ap Some (row_is k q at) in
       let found = in_ends (instance_rows g j ms (back seat)) inside.0 q e row is in
       let h : HasItsEnd g j ms (back seat) = subst (λ (w : List Member). HasItsEnd g j w (back seat)) a.cells.told (a.ends g j small) in
-      let r = split g j ms found.0 found.1 h (nat_lt j (cell.closings g ms)) refl in
+      let r = split g j ms found.0 found.1 h (nat_lt j (cell.members_closing g ms)) refl in
       record { end = r.0; one = r.1 }
     where
       none_at : (l : List GroupEnd) (n : ℕ) → l ≡ [] → slice_get l n ≡ Some e → ⊥
@@ -170,11 +149,11 @@ module _ (ts : List Taking) (ls : List Landing) (seat : CellSeat) (a : AreAllLan
           past zero u = cc
           past (suc n) u = cc
 
-      split : (g j : ℕ) (ms : List Member) (n : ℕ) → slice_get (ends_of (instance_rows g j ms (back seat))) n ≡ Some e → HasItsEnd g j ms (back seat) → (b : Bool) → nat_lt j (cell.closings g ms) ≡ b
+      split : (g j : ℕ) (ms : List Member) (n : ℕ) → slice_get (ends_of (instance_rows g j ms (back seat))) n ≡ Some e → HasItsEnd g j ms (back seat) → (b : Bool) → nat_lt j (cell.members_closing g ms) ≡ b
           → (IsEnd (instance_rows g j ms (back seat)) e) × (length (ends_of (instance_rows g j ms (back seat))) ≤ 1)
       split g j ms n f h true x =
-          let o = h.0 (ltb-true j (cell.closings g ms) x) in
+          let o = h.0 (ltb-true j (cell.members_closing g ms) x) in
           let same : o.0 ≡ e = only (ends_of (instance_rows g j ms (back seat))) o.0 n o.1 f in
           let len = ap length o.1 in
           (subst (λ (w : GroupEnd). IsEnd (instance_rows g j ms (back seat)) w) same o.2, omega arith)
-      split g j ms n f h false x = absurd (none_at (ends_of (instance_rows g j ms (back seat))) n (h.1 (ltb-false j (cell.closings g ms) x)) f)
+      split g j ms n f h false x = absurd (none_at (ends_of (instance_rows g j ms (back seat))) n (h.1 (ltb-false j (cell.members_closing g ms) x)) f)

@@ -9,25 +9,13 @@ use Rattle.std.proofs.lemmas.List.{length-map}
 use Rattle.std.proofs.lemmas.Slice.Eq.{bytes_eq-Decides}
 use Rattle.host_block.proofs.Places.{in_map}
 use Rattle.host_record.specs.declared.request.Request.{Request}
-use Rattle.host_record.specs.Command.{is_last}
-use Rattle.host_model.specs.declared.row.TakenRow.{TakenRow}
-use Rattle.host_model.specs.Answers.{answer_bytes}
-use Rattle.host_model.specs.Groups.{answers_for, closings, instance_of, is_closing, is_member, is_owing, same_instance}
-use Rattle.host_model.specs.Lists.{implies}
-use Rattle.host_model.specs.Log.{request_at}
+use Rattle.host_record.specs.{is_last}
+use Rattle.host_model.specs.{TakenRow, answer_bytes, answers_for, closings, instance_of, is_closing, is_member, is_owing, same_instance, implies, request_at}
 use Rattle.host_model.proofs.ListTests.{and-from, both, implied, implies-from}
 use Rattle.host_intake.proofs.Readiness.{all_at}
-use Rattle.host_group.specs.declared.group_end.GroupEnd.{GroupEnd}
-use Rattle.host_group.specs.declared.seat.CellSeat.{CellSeat}
-use Rattle.host_group.specs.declared.view.Member.{Member}
-use Rattle.host_group.specs.declared.view.Row.{Row}
-use Rattle.host_group.specs.Ends.{IsEnd, end_of, greatest, instance_rows, members_of, row_of}
-use Rattle.host_group.specs.Seats.{back, member}
-use Rattle.host_rings.specs.declared.slip.Slip.{Slip}
-use Rattle.host_intake.specs.Answers.{group_slip, lone_slip, row_slip}
-use Rattle.host_intake.specs.Entries.{Landing, Taking, is_landing_of, requests_of, request_in}
-use Rattle.host_intake.specs.Members.{Ending, is_of_member, member_at, members}
-use Rattle.host_intake.specs.Told.{row_in}
+use Rattle.host_group.specs.{GroupEnd, CellSeat, Member, Row, IsEnd, end_of, greatest, instance_rows, members_of, row_of, back, member}
+use Rattle.host_rings.specs.{Slip}
+use Rattle.host_intake.specs.{group_slip, lone_slip, row_slip, Landing, Taking, is_landing_of, requests_of, request_in, Ending, is_of_member, member_at, members, row_in}
 use Rattle.session_law.proofs.Ends.{closer, closes_it, in_members_of, member_says, member_there, slip_is, slip_within}
 use Rattle.session_law.proofs.Gathered.{greatest_at}
 use Rattle.session_law.proofs.Handing.{answers_of}
@@ -35,6 +23,7 @@ use Rattle.session_law.proofs.Landings.{found_landing, landing_taken}
 use Rattle.session_law.proofs.Lone.{lone_is}
 use Rattle.session_law.proofs.Places.{found_at}
 use Rattle.session_law.proofs.Returned.{AreAllLanded, back_of, end_told, outcome_at, outcomes, row_is}
+use Rattle.host_log.proofs.Bools.{and_parts, and_right, either_way}
 
 -- ---- members of one instance
 
@@ -42,12 +31,7 @@ instance_member : (rs : List Request) (k g j : ℕ) → same_instance (Some (g, 
 instance_member rs k g j e = step (is_member (request_at rs k)) (member (request_at rs k).group (closings (request_at rs k).group (take k rs)) k (request_at rs k).reqid (is_last (request_at rs k))) e
   where
     step : (b : Bool) (m : Member) → same_instance (Some (g, j)) (cond b (Some (m.number, m.instance)) None) ≡ true → (w : Member) × (cond b (Some m) None ≡ Some w) × (w.number ≡ g) × (w.instance ≡ j)
-    step true m f = let p = parts (g == m.number) (j == m.instance) f in (m, refl, sym (eqb-true g m.number p.0), sym (eqb-true j m.instance p.1))
-      where
-        parts : (b c : Bool) → (b && c) ≡ true → (b ≡ true) × (c ≡ true)
-        parts true true e = (refl, refl)
-        parts true false e = absurd (cc)
-        parts false c e = absurd (cc)
+    step true m f = let p = and_parts (g == m.number) (j == m.instance) f in (m, refl, sym (eqb-true g m.number p.0), sym (eqb-true j m.instance p.1))
     step false m f = absurd (cc)
 
 instance_is : (rs : List Request) (i : ℕ) (m : Member) → member_at rs i ≡ Some m → instance_of rs i ≡ Some (m.number, m.instance)
@@ -60,11 +44,7 @@ answered_instance : (rs : List Request) (i k : ℕ) (m : Member) → member_at r
 answered_instance rs i k m e f =
     let s = member_says rs i m e in
     let g : (is_closing (request_at rs i) && same_instance (instance_of rs i) (instance_of rs k)) ≡ true = sym (ap (λ b. cond b (is_closing (request_at rs i) && same_instance (instance_of rs i) (instance_of rs k)) (i == k)) s.is) ∙ f in
-    ap (λ o. same_instance o (instance_of rs k)) (sym (instance_is rs i m e)) ∙ right (is_closing (request_at rs i)) (same_instance (instance_of rs i) (instance_of rs k)) g
-  where
-    right : (b c : Bool) → (b && c) ≡ true → c ≡ true
-    right true c e = e
-    right false c e = absurd (cc)
+    ap (λ o. same_instance o (instance_of rs k)) (sym (instance_is rs i m e)) ∙ and_right (is_closing (request_at rs i)) (same_instance (instance_of rs i) (instance_of rs k)) g
 
 module _ (ts : List Taking) (ls : List Landing) (seat : CellSeat) (a : AreAllLanded ts ls seat) where
   -- the answer of an owing record that was taken, with fronts no smaller than those of the records that it answers
@@ -133,15 +113,11 @@ module _ (ts : List Taking) (ls : List Landing) (seat : CellSeat) (a : AreAllLan
       record {
         bytes = slip_is rs rows (back seat) have g j e t.end;
         taken = omega (arith, lt, long);
-        owing = either (is_member (request_at rs e.index)) (is_closing (request_at rs e.index)) (closes_it rs rows (back seat) have g j e t.end);
+        owing = either_way (is_member (request_at rs e.index)) (is_closing (request_at rs e.index)) (closes_it rs rows (back seat) have g j e t.end);
         covers = λ n l bt f.
             let i = instance_member rs l.index c.0.number c.0.instance (answered_instance rs e.index l.index c.0 c.1.at f) in
             member_covered e g j n l i.0 t.end bt i.1 (i.2 ∙ c.1.number) (i.3 ∙ c.1.instance);
       }
-    where
-      either : (b d : Bool) → d ≡ true → (not b || d) ≡ true
-      either true d f = f
-      either false d f = refl
 
   -- an answer is that of the landing that made it due
   pub record IsAnswerOf (l : Landing) (s : Slip) : Type 0 where

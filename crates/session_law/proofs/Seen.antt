@@ -1,23 +1,17 @@
 -- What a beginning of the buffers' history has of the client's entries.
-use Rattle.std.proofs.Common.{◌≡◌, ℕ, zero, suc, ◌+◌, ◌<◌, ◌≤◌, ◌==◌, Bool, true, false, cond, List, [], ◌∷◌, ◌++◌, filter, filter_map, length, map, take, drop, Option, Some, None, refl, sym, ap, ◌∙◌, arith, append-nil, append_assoc}
+use Rattle.std.proofs.Common.{◌≡◌, ℕ, zero, suc, ◌+◌, ◌<◌, ◌≤◌, ◌==◌, Bool, true, false, cond, List, [], ◌∷◌, ◌++◌, filter, filter_map, length, map, take, drop, Option, Some, None, refl, sym, ap, ◌∙◌, arith}
 use Rattle.std.specs.Bool.{then_some}
 use Rattle.std.specs.List.{cons_option, slice_get}
 use Rattle.std.specs.Option.{option_map, option_map_or}
 use Rattle.std.proofs.lemmas.List.{take-append-drop, take_at}
 use Rattle.std.proofs.lemmas.Option.{slice_get-map}
-use Rattle.host_memory.specs.Held.{Attachment, attachment_by, attachment_of, has_blocks, is_released}
-use Rattle.host_model.specs.declared.event.Event.{Event}
-use Rattle.host_model.specs.declared.event.Event.TheVariants.{Attached, NotAttached, Filled, Shown, Sent, Received, Drained, Aborted}
-use Rattle.host_model.specs.declared.memory.MemEvent.{MemEvent}
-use Rattle.host_model.specs.Buffers.{is_in_buffer}
-use Rattle.host_model.specs.ClientEntries.{entry_after, is_client, told}
-use Rattle.host_model.specs.Lists.{map_after, places_from}
-use Rattle.host_model.specs.Log.{pages_given, pages_of, sent}
-use Rattle.host_model.specs.Verdict.{is_within}
-use Rattle.host_session.specs.Acts.{Act, entry_place, log_of}
+use Rattle.host_memory.specs.{Attachment, attachment_by, attachment_of, has_blocks, is_released}
+use Rattle.host_model.specs.{Event, Attached, NotAttached, Filled, Shown, Sent, Received, Drained, Aborted, MemEvent, is_in_buffer, entry_after, is_client, told, map_after, places_from, pages_given, pages_of, sent, is_within}
+use Rattle.host_session.specs.{Act, entry_place, log_of}
 use Rattle.session_law.proofs.Lending.{attached_client}
 use Rattle.session_law.proofs.Places.{unrank}
 use Rattle.session_law.proofs.Spots.{told_count}
+use Rattle.host_session.proofs.Snoc.{map_after-append}
 
 -- ---- those that pass, up to a place
 
@@ -55,23 +49,12 @@ module _ {A : Type 0} (p : A → Bool) where
 
 -- ---- what is told of a log and more
 
-map_both : {A B : Type 0} (f : List A → A → Option B) (before xs ys : List A) → map_after f before (xs ++ ys) ≡ map_after f before xs ++ map_after f (before ++ xs) ys
-map_both f before [] ys = ap (λ l. map_after f l ys) (sym (append-nil before))
-map_both f before (x ∷ xs) ys =
-    ap (λ l. cons_option (f before x) l) (map_both f (before ++ x ∷ []) xs ys)
-    ∙ (more (f before x) (map_after f (before ++ x ∷ []) xs) (map_after f ((before ++ x ∷ []) ++ xs) ys)
-    ∙ ap (λ l. cons_option (f before x) (map_after f (before ++ x ∷ []) xs) ++ map_after f l ys) (append_assoc before (x ∷ []) xs))
-  where
-    more : {B : Type 0} (o : Option B) (l m : List B) → cons_option o (l ++ m) ≡ cons_option o l ++ m
-    more None l m = refl
-    more (Some y) l m = refl
-
 pub told_first : (acts : List Act) (n : ℕ) → take (length (filter_map entry_place (take n acts))) (told (log_of acts)) ≡ told (log_of (take n acts))
 told_first acts n =
     let l : ℕ = length (filter_map entry_place (take n acts)) in
     ap (λ a. take (length (filter_map entry_place (take n acts))) (told (log_of a))) (sym (take-append-drop n acts))
     ∙ (ap (λ x. take (length (filter_map entry_place (take n acts))) (told x)) (log_both (take n acts) (drop n acts))
-    ∙ (ap (take (length (filter_map entry_place (take n acts)))) (map_both entry_after [] (log_of (take n acts)) (log_of (drop n acts)))
+    ∙ (ap (take (length (filter_map entry_place (take n acts)))) (map_after-append entry_after [] (log_of (take n acts)) (log_of (drop n acts)))
     ∙ take_at (told (log_of (take n acts))) (map_after entry_after (log_of (take n acts)) (log_of (drop n acts))) (length (filter_map entry_place (take n acts))) (told_count (take n acts) [])))
   where
     log_both : (xs ys : List Act) → log_of (xs ++ ys) ≡ log_of xs ++ log_of ys
@@ -89,7 +72,7 @@ pub told_here : (acts : List Act) (n : ℕ) (a : Act) (w : MemEvent) → slice_g
 told_here acts n a w at is =
     ap (λ x. slice_get (told (log_of x)) (length (filter_map entry_place (take n acts)))) (sym (take-append-drop n acts) ∙ ap (λ r. take n acts ++ r) (drop_here acts n a at))
     ∙ (ap (λ x. slice_get (told x) (length (filter_map entry_place (take n acts)))) (log_both (take n acts) (a ∷ drop (suc n) acts))
-    ∙ (ap (λ l. slice_get l (length (filter_map entry_place (take n acts)))) (map_both entry_after [] (log_of (take n acts)) (a.event ∷ log_of (drop (suc n) acts)))
+    ∙ (ap (λ l. slice_get l (length (filter_map entry_place (take n acts)))) (map_after-append entry_after [] (log_of (take n acts)) (a.event ∷ log_of (drop (suc n) acts)))
     ∙ (ap (λ k. slice_get (told (log_of (take n acts)) ++ cons_option (entry_after (log_of (take n acts)) a.event) (map_after entry_after (log_of (take n acts) ++ a.event ∷ []) (log_of (drop (suc n) acts)))) k) (sym (told_count (take n acts) []))
     ∙ (ap (λ o. slice_get (told (log_of (take n acts)) ++ cons_option o (map_after entry_after (log_of (take n acts) ++ a.event ∷ []) (log_of (drop (suc n) acts)))) (length (told (log_of (take n acts))))) is
     ∙ seam (told (log_of (take n acts))) w (map_after entry_after (log_of (take n acts) ++ a.event ∷ []) (log_of (drop (suc n) acts)))))))

@@ -5,20 +5,11 @@ use Rattle.std.specs.List.{cons_option, slice_get}
 use Rattle.std.specs.Option.{option_map}
 use Rattle.std.proofs.lemmas.Bool.{ltb-false, ltb-true}
 use Rattle.std.proofs.lemmas.Option.{slice_get-map}
-use Rattle.host_memory.specs.State.{events}
-use Rattle.host_model.specs.declared.event.Event.{Event}
-use Rattle.host_model.specs.declared.event.Event.TheVariants.{Attached, NotAttached, Filled, Shown, Sent, Received, Drained, Aborted}
-use Rattle.host_model.specs.declared.memory.MemEntry.{MemEntry}
-use Rattle.host_model.specs.declared.memory.MemEvent.{MemEvent}
-use Rattle.host_model.specs.declared.memory.MemEvent.TheVariants.{Attach}
-use Rattle.host_model.specs.ClientEntries.{entry_after, is_client, told}
-use Rattle.host_model.specs.Lists.{map_after}
-use Rattle.host_model.specs.Log.{sent, sent_bytes}
-use Rattle.host_rings.specs.declared.envelope.Envelope.{Envelope}
-use Rattle.host_rings.specs.declared.slip.Slip.{Slip}
-use Rattle.host_session.specs.declared.fronts.Fronts.{Fronts}
-use Rattle.host_session.specs.Acts.{Act, IsCourse, IsEventAfter, entry_place, envelopes_of, has_entry, log_of, next_envelope}
-use Rattle.session_law.specs.Fronts.{DoFrontsRise}
+use Rattle.host_memory.specs.{events}
+use Rattle.host_model.specs.{Event, Attached, NotAttached, Filled, Shown, Sent, Received, Drained, Aborted, MemEntry, MemEvent, Attach, entry_after, is_client, told, map_after, sent, sent_bytes}
+use Rattle.host_rings.specs.{Envelope, Slip}
+use Rattle.host_session.specs.{Fronts, Act, IsCourse, IsEventAfter, entry_place, envelopes_of, has_entry, log_of, next_envelope}
+use Rattle.session_law.specs.{DoFrontsRise}
 use Rattle.session_law.proofs.Fronts.{rises}
 use Rattle.session_law.proofs.Places.{fewer_told, found_at, rank, told_here}
 

@@ -4,13 +4,8 @@ use Rattle.std.specs.Prelude.{Contains, is_some}
 use Rattle.std.specs.List.{cons_option, slice_get, slice_index_or}
 use Rattle.std.proofs.lemmas.List.{take-append-drop, take_at}
 use Rattle.std.proofs.lemmas.List.Elements.{filter_map-append}
-use Rattle.host_model.specs.declared.event.Event.{Event}
-use Rattle.host_model.specs.declared.event.Event.TheVariants.{Attached, NotAttached, Filled, Shown, Sent, Received, Drained, Aborted}
-use Rattle.host_model.specs.declared.memory.MemEvent.{MemEvent}
-use Rattle.host_model.specs.ClientEntries.{entry_after}
-use Rattle.host_model.specs.Lists.{count, map_after}
-use Rattle.host_model.specs.Log.{before_sent, sending, sent, sent_bytes}
-use Rattle.host_session.specs.Acts.{Act, entry_place, has_entry, log_of}
+use Rattle.host_model.specs.{Event, Attached, NotAttached, Filled, Shown, Sent, Received, Drained, Aborted, MemEvent, entry_after, count, map_after, before_sent, sending, sent, sent_bytes}
+use Rattle.host_session.specs.{Act, entry_place, has_entry, log_of}
 use Rattle.session_law.proofs.Sending.{entry_there, sent_until}
 use Rattle.session_law.proofs.Sums.{bit, count_one}
 

@@ -5,8 +5,8 @@ use Rattle.std.specs.Option.{option_map_or}
 use Rattle.std.proofs.lemmas.Bool.{eqb-true, eq-eqb, ltb-false, ltb-true}
 use Rattle.std.proofs.lemmas.List.{reverse-append}
 use Rattle.std.proofs.lemmas.List.Elements.{filter-append}
-use Rattle.host_model.specs.Lists.{count}
-use Rattle.host_session.specs.Acts.{IsPart}
+use Rattle.host_model.specs.{count}
+use Rattle.host_session.specs.{IsPart}
 
 -- one where it passes
 abbrev pub bit : Bool → ℕ

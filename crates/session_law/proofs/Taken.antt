@@ -6,36 +6,17 @@ use Rattle.std.proofs.lemmas.Bool.{leb-true}
 use Rattle.std.proofs.lemmas.List.{length-map}
 use Rattle.std.proofs.lemmas.List.Elements.{filter-append}
 use Rattle.host_block.proofs.Places.{any_at, from_take}
-use Rattle.host_intake.specs.Entries.{Taking, landings, request_in, requests_of}
-use Rattle.host_intake.specs.Laws.{Lends}
-use Rattle.host_intake.specs.Takings.{judged_on}
-use Rattle.host_intake.specs.Told.{memory_front_in, row_in}
+use Rattle.host_intake.specs.{Taking, landings, request_in, requests_of, Lends, judged_on, memory_front_in, row_in}
 use Rattle.host_intake.proofs.Verdicts.{verdicts_are}
-use Rattle.host_memory.specs.Held.{attachment_by, closer_of, is_released}
-use Rattle.host_memory.specs.State.{events}
-use Rattle.host_model.specs.declared.event.Event.{Event}
-use Rattle.host_model.specs.declared.event.Event.TheVariants.{Drained, Aborted}
-use Rattle.host_model.specs.declared.memory.MemEntry.{MemEntry}
-use Rattle.host_model.specs.declared.memory.MemEvent.{MemEvent}
-use Rattle.host_model.specs.declared.memory.MemEvent.TheVariants.{Attach, Release}
-use Rattle.host_model.specs.declared.row.TakenRow.{TakenRow}
+use Rattle.host_memory.specs.{attachment_by, closer_of, is_released, events}
+use Rattle.host_model.specs.{Event, Drained, Aborted, MemEntry, MemEvent, Attach, Release, TakenRow, is_client, told, all_with_before, below, given_before, requests, sent, sent_index, is_release_of, IsTakenInOrder, end_event, is_drain, is_end, runs_out_rightly, verdicts, verdicts_on}
 use Rattle.host_model.specs.declared.verdict.Verdict.{Verdict}
-use Rattle.host_model.specs.ClientEntries.{is_client, told}
-use Rattle.host_model.specs.Lists.{all_with_before, below}
-use Rattle.host_model.specs.Log.{given_before, requests, sent, sent_index}
-use Rattle.host_model.specs.Releases.{is_release_of}
 use Rattle.host_model.specs.Session.{Session}
-use Rattle.host_model.specs.Taking.{IsTakenInOrder, end_event, is_drain, is_end, runs_out_rightly}
-use Rattle.host_model.specs.Verdict.{verdicts, verdicts_on}
 use Rattle.host_model.proofs.Growth.{verdicts_on-append}
-use Rattle.host_record.specs.declared.finish.Finish.{Finish}
-use Rattle.host_record.specs.declared.finish.Finish.TheVariants.{Drain, Abort}
-use Rattle.host_session.specs.declared.hand.SessionHand.{SessionHand}
-use Rattle.host_session.specs.Client.{ClientState, ends_logged, is_aborted, is_drained}
-use Rattle.host_session.specs.Told.{is_release}
+use Rattle.host_record.specs.{Finish, Drain, Abort}
+use Rattle.host_session.specs.{SessionHand, ClientState, ends_logged, is_aborted, is_drained, is_release}
 use Rattle.host_session.proofs.Whole.{map_twice}
-use Rattle.session_law.specs.Gathered.{EndsDrained, IsGathered, ReleaseClosed}
-use Rattle.session_law.specs.Taking.{TakenInOrder}
+use Rattle.session_law.specs.{EndsDrained, IsSessionGathered, ReleaseClosed, TakenInOrder}
 use Rattle.session_law.proofs.Draining.{drains_come_last}
 use Rattle.session_law.proofs.Gathered.{closed, course, envelope_at, es_of, front_past, index_is, log_same, requests_are, taken_few, taken_whole, ts_of}
 use Rattle.session_law.proofs.Lending.{attached_once, few_before, is_attached_for, lent_before, lent_by_log}
@@ -78,7 +59,7 @@ ends_so log before e is split only =
     ∙ (ap (λ l. filter (λ x. not (is_end x)) before ++ l) rest ∙ (append-nil (filter (λ x. not (is_end x)) before) ∙ all_kept is_end before none))) in
     split ∙ ap (λ l. l ++ e ∷ []) (sym kept)
 
-module _ (client : ClientState) (hands : List SessionHand) (h : List MemEntry) (s : Session) (g : IsGathered client hands h s) (drained : EndsDrained client) (due : ReleaseClosed client.plan.hands h) where
+module _ (client : ClientState) (hands : List SessionHand) (h : List MemEntry) (s : Session) (g : IsSessionGathered client hands h s) (drained : EndsDrained client) (due : ReleaseClosed client.plan.hands h) where
   -- ---- what a record was lent
 
   pub entries_told : filter is_client (events h) ≡ told client.log

@@ -8,40 +8,25 @@ use Rattle.std.proofs.lemmas.List.{get_or_past, length-map, take-append-drop, ta
 use Rattle.std.proofs.lemmas.List.Elements.{filter_map-append}
 use Rattle.std.proofs.lemmas.Option.{get_or_from_slice_get}
 use Rattle.host_block.proofs.Places.{any_at, from_take, within}
-use Rattle.host_memory.specs.Held.{has_blocks, is_released}
-use Rattle.host_memory.specs.State.{events}
-use Rattle.host_model.specs.declared.event.Event.{Event}
-use Rattle.host_model.specs.declared.event.Event.TheVariants.{Attached, NotAttached, Filled, Shown, Sent, Received, Drained, Aborted}
-use Rattle.host_model.specs.declared.memory.MemEntry.{MemEntry}
-use Rattle.host_model.specs.declared.memory.MemEvent.{MemEvent}
-use Rattle.host_model.specs.declared.memory.MemEvent.TheVariants.{Fill, Show, Release}
-use Rattle.host_model.specs.Buffers.{is_in_buffer, is_used_rightly, next_client_place, was_closed, was_released}
-use Rattle.host_model.specs.ClientEntries.{entry_after, is_client, told}
-use Rattle.host_model.specs.Lists.{all_after, all_with_before, places}
-use Rattle.host_model.specs.Log.{sent, sent_bytes}
-use Rattle.host_model.specs.Releases.{is_release_of}
+use Rattle.host_memory.specs.{has_blocks, is_released, events}
+use Rattle.host_model.specs.{Event, Attached, NotAttached, Filled, Shown, Sent, Received, Drained, Aborted, MemEntry, MemEvent, Fill, Show, Release, is_in_buffer, is_used_rightly, next_client_place, was_closed, was_released, entry_after, is_client, told, all_after, all_with_before, places, sent, sent_bytes, is_release_of, is_end}
 use Rattle.host_model.specs.Session.{Session}
-use Rattle.host_model.specs.Taking.{is_end}
 use Rattle.host_model.proofs.ListTests.{and-from}
-use Rattle.host_intake.specs.Entries.{Taking}
-use Rattle.host_session.specs.declared.fronts.Fronts.{Fronts}
-use Rattle.host_session.specs.declared.hand.SessionHand.{SessionHand}
-use Rattle.host_session.specs.Acts.{Act, IsEventAfter, entry_place, has_entry, log_of}
-use Rattle.host_session.specs.Client.{ClientState}
-use Rattle.host_session.specs.Told.{finds_blocks}
-use Rattle.session_law.specs.Fronts.{DoFrontsRise}
-use Rattle.session_law.specs.Gathered.{EndsDrained, IsGathered, ReleaseClosed}
-use Rattle.session_law.specs.Using.{UsedRightly}
+use Rattle.host_intake.specs.{Taking}
+use Rattle.host_session.specs.{Fronts, SessionHand, Act, IsEventAfter, entry_place, has_entry, log_of, ClientState, finds_blocks}
+use Rattle.session_law.specs.{DoFrontsRise, EndsDrained, IsSessionGathered, ReleaseClosed, UsedRightly}
 use Rattle.session_law.proofs.Draining.{drains_come_last}
 use Rattle.session_law.proofs.Finding.{from_map}
 use Rattle.session_law.proofs.Gathered.{course, envelope_at, index_is, log_same, taken_whole, ts_of}
 use Rattle.session_law.proofs.Owners.{IsCloseEntry, close_taken, late_release, released_by_taken}
-use Rattle.session_law.proofs.Places.{any_here, fewer_told, found_at, from_drop, has_found, only_at, rank, told_here as told_more, unrank, with_before_at}
+use Rattle.session_law.proofs.Places.{fewer_told, found_at, from_drop, has_found, only_at, rank, told_here as told_more, unrank, with_before_at}
+use Rattle.host_log.proofs.Places.{any_here}
 use Rattle.session_law.proofs.Released.{entry_at, events_take, release_is}
 use Rattle.session_law.proofs.Seen.{blocks_held, blocks_told, cut_places, told_first, told_here}
 use Rattle.session_law.proofs.Sending.{fronts_of, more_sent, sent_by, sent_until}
 use Rattle.session_law.proofs.Spots.{told_count}
 use Rattle.session_law.proofs.Taken.{row_count}
+use Rattle.host_log.proofs.Bools.{either_way}
 
 -- ---- lists
 
@@ -52,7 +37,7 @@ all_from test before (x ∷ xs) h =
     (ap (λ l. test l x) (sym (append-nil before)) ∙ h 0 x refl)
     (all_from test (before ++ x ∷ []) xs (λ n y at. ap (λ l. test l y) (append_assoc before (x ∷ []) (take n xs)) ∙ h (suc n) y at))
 
-module _ (client : ClientState) (hands : List SessionHand) (h : List MemEntry) (s : Session) (g : IsGathered client hands h s) (drained : EndsDrained client) (due : ReleaseClosed client.plan.hands h) (find : all_with_before finds_blocks (events h) ≡ true) where
+module _ (client : ClientState) (hands : List SessionHand) (h : List MemEntry) (s : Session) (g : IsSessionGathered client hands h s) (drained : EndsDrained client) (due : ReleaseClosed client.plan.hands h) (find : all_with_before finds_blocks (events h) ≡ true) where
   abbrev acts : List Act
   acts = g.whole.client_of.acts
 
@@ -202,10 +187,6 @@ module _ (client : ClientState) (hands : List SessionHand) (h : List MemEntry) (
       → (not (is_in_buffer (take n s.log) v block count) || was_released s (take n s.log) v) ≡ true
   left_undone n v block count a at has quiet no_end within_h none = step (is_released v (take a.fronts.memory (events h))) refl
     where
-      either : (x y : Bool) → y ≡ true → (not x || y) ≡ true
-      either true y e = e
-      either false y e = refl
-
       seen : filter is_client (take a.fronts.memory (events h)) ≡ told (log_of (take n acts))
       seen = seen_told n a.fronts.memory
           (λ m q b bt lt e. let x = rises.entered m n q b a bt at (omega arith) e in omega (arith, x))
@@ -229,7 +210,7 @@ module _ (client : ClientState) (hands : List SessionHand) (h : List MemEntry) (
           let p = from_take (events h) a.fronts.memory r.0 r.1 r.2 in
           let e = entry_at h r.0 r.1 p.0 in
           let what : e.0.what ≡ Release v = e.2 ∙ release_is v r.1 r.3 in
-          either (is_in_buffer (take n s.log) v block count) (was_released s (take n s.log) v)
+          either_way (is_in_buffer (take n s.log) v block count) (was_released s (take n s.log) v)
           (released r.0 r.1 e.0 p.1 e.1 what p.0 r.3 (released_by_taken client hands h s g drained due r.0 v e.0 e.1 what))
         where
           released : (q : ℕ) (w : MemEvent) (e : MemEntry) → q < a.fronts.memory → slice_get h q ≡ Some e → e.what ≡ Release v → slice_get (events h) q ≡ Some w → is_release_of v w ≡ true

@@ -8,22 +8,26 @@ ghost use Rattle.session_law.specs.Ordering.{OrderKept};
 ghost use Rattle.session_law.specs.Taking.{TakenInOrder};
 ghost use Rattle.session_law.specs.Using.{UsedRightly};
 
-/// What a client end knew as it sent a record: all that the slips received before told, and its own entries.
+/// What a client end knew as it sent a record: all that the slips received before told, and its own
+/// entries.
 pub fn fronts_rise()
     ensures { FrontsRise }
 {}
 
-/// The records of a session were taken in the order sent, with the verdicts that its client's log gives them.
+/// The records of a session were taken in the order sent, with the verdicts that its client's log
+/// gives them.
 pub fn taken_in_order()
     ensures { TakenInOrder }
 {}
 
-/// The buffers' history has the client's entries as its log tells them, its pages, and each buffer's one release.
+/// The buffers' history has the client's entries as its log tells them, its pages, and each
+/// buffer's one release.
 pub fn buffers_told()
     ensures { BuffersTold }
 {}
 
-/// What a session's client received is what it was due, each answer once at most; after a drain each just once.
+/// What a session's client received is what it was due, each answer once at most; after a drain
+/// each just once.
 pub fn due_answers()
     ensures { DueAnswers }
 {}

@@ -1,6 +1,6 @@
-//! The tests of the crates that read and write texts and records: `host_text`, `host_record`,
-//! `host_report` and `host_script`.
+//! The tests of what reads and writes bytes: tables, texts and records, and the words of a call.
 #![tactic(auto)]
 
-#[cfg(test)]
-mod tests;
+pub mod table;
+pub mod texts;
+pub mod words;

@@ -11,7 +11,8 @@ pub enum Call {
     Attach(u32, u16),
     /// The id, the first block, the number of blocks and the byte; true where it was done.
     Fill(u16, u32, u32, u8, bool),
-    /// The index, the command, the reqid, the group, the id, the length, and the offsets in the buffer and in the partition.
+    /// The index, the command, the reqid, the group, the id, the length, and the offsets in the
+    /// buffer and in the partition.
     Send(u32, u32, u32, u16, u16, u32, u64, u64),
     /// The status, the reqid, the group and the count.
     Answer(Status, u32, u16, u32),
@@ -42,7 +43,8 @@ pub enum Entry {
     Release(u16),
 }
 
-/// A step: the index, the step of the record, the operation, the block and its byte, and whether it faulted.
+/// A step: the index, the step of the record, the operation, the block and its byte, and whether it
+/// faulted.
 #[derive(Clone, Copy)]
 pub struct Act(
     pub u32,

@@ -51,7 +51,8 @@ fn plan(alloc: Global, lists: &Lists) -> Result<Plan, Fail> {
     })
 }
 
-/// Each call of the base report, and a wait for each answer, where the first client is asked for this before.
+/// Each call of the base report, and a wait for each answer, where the first client is asked for
+/// this before.
 pub fn plans(alloc: Global, first: Option<Ask>) -> Result<Vec<Plan>, Fail> {
     let mut plans = Vec::new(alloc);
     for lists in &SESSIONS {

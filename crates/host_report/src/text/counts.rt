@@ -1,6 +1,8 @@
 // What the logs of a run count.
 ghost use Rattle.std.specs.Prelude.{◌≡◌, count_by};
-ghost use Rattle.host_report.specs.Summary.{answers_received, good_answers, failed_answers, is_failed_event, is_good_answer, is_good_event, is_received_event, is_sent_event, records_sent};
+ghost use Rattle.host_report.specs.Summary.{answers_received, good_answers, failed_answers};
+ghost use Rattle.host_report.specs.Summary.{is_failed_event, is_good_answer, is_good_event};
+ghost use Rattle.host_report.specs.Summary.{is_received_event, is_sent_event, records_sent};
 
 use crate::session::SessionReport;
 use byteorder::{ByteOrder, LittleEndian};

@@ -1,9 +1,9 @@
 // The lines of what was done to a session's buffers.
 ghost use Rattle.std.specs.Prelude.{[], ◌∷◌, flat_map, codes, decimal};
-ghost use Rattle.host_report.specs.StepText.{entry_line, entry_words};
+ghost use Rattle.host_report.specs.StepText.{memory_entry_line, memory_entry_words};
 ghost use Rattle.host_report.specs.Words.{inner};
 ghost use Rattle.host_text.specs.Words.{block_word};
-ghost use Rattle.host_text.specs.Writing.{Puts};
+ghost use Rattle.host_text.specs.Writing.{PutsHeldText};
 
 use host_io::{Sink, SinkFailed};
 use host_model::{MemEntry, MemEvent, SharedBytes};
@@ -15,7 +15,8 @@ pub fn write_entries<K: Sink>(
     held: &mut Held,
     out: &mut K,
 ) -> Result<(), SinkFailed>
-    ensures { Puts K.tells K.faults K.appended out.old held.old out.new held.new (flat_map entry_line entries.now) result }
+    ensures { PutsHeldText K.tells K.faults K.appended out.old held.old out.new held.new
+        (flat_map memory_entry_line entries.now) result }
 {
     for entry in entries {
         write_entry(entry, held, out)?;
@@ -24,7 +25,8 @@ pub fn write_entries<K: Sink>(
 }
 
 fn write_entry<K: Sink>(entry: &MemEntry, held: &mut Held, out: &mut K) -> Result<(), SinkFailed>
-    ensures { Puts K.tells K.faults K.appended out.old held.old out.new held.new (entry_line entry.now) result }
+    ensures { PutsHeldText K.tells K.faults K.appended out.old held.old out.new held.new
+        (memory_entry_line entry.now) result }
 {
     match &entry.what {
         MemEvent::Attach { id, pages, from } => write_attach(*id, *pages, *from, held, out),
@@ -63,7 +65,8 @@ fn write_attach<K: Sink>(
     held: &mut Held,
     out: &mut K,
 ) -> Result<(), SinkFailed>
-    ensures { Puts K.tells K.faults K.appended out.old held.old out.new held.new (inner (codes "memory" ∷ entry_words (MemEvent.Attach id pages from))) result }
+    ensures { PutsHeldText K.tells K.faults K.appended out.old held.old out.new held.new
+        (inner (codes "memory" ∷ memory_entry_words (MemEvent.Attach id pages from))) result }
 {
     let words = [
         Word::Text(b"memory"),
@@ -83,7 +86,8 @@ fn write_fill<K: Sink>(
     held: &mut Held,
     out: &mut K,
 ) -> Result<(), SinkFailed>
-    ensures { Puts K.tells K.faults K.appended out.old held.old out.new held.new (inner (codes "memory" ∷ entry_words (MemEvent.Fill id block count byte))) result }
+    ensures { PutsHeldText K.tells K.faults K.appended out.old held.old out.new held.new
+        (inner (codes "memory" ∷ memory_entry_words (MemEvent.Fill id block count byte))) result }
 {
     let words = [
         Word::Text(b"memory"),
@@ -103,7 +107,8 @@ fn write_show<K: Sink>(
     held: &mut Held,
     out: &mut K,
 ) -> Result<(), SinkFailed>
-    ensures { Puts K.tells K.faults K.appended out.old held.old out.new held.new (inner (codes "memory" ∷ entry_words (MemEvent.Show id block count))) result }
+    ensures { PutsHeldText K.tells K.faults K.appended out.old held.old out.new held.new
+        (inner (codes "memory" ∷ memory_entry_words (MemEvent.Show id block count))) result }
 {
     let words = [
         Word::Text(b"memory"),
@@ -116,7 +121,8 @@ fn write_show<K: Sink>(
 }
 
 fn write_release<K: Sink>(id: u16, held: &mut Held, out: &mut K) -> Result<(), SinkFailed>
-    ensures { Puts K.tells K.faults K.appended out.old held.old out.new held.new (inner (codes "memory" ∷ entry_words (MemEvent.Release id))) result }
+    ensures { PutsHeldText K.tells K.faults K.appended out.old held.old out.new held.new
+        (inner (codes "memory" ∷ memory_entry_words (MemEvent.Release id))) result }
 {
     let words = [
         Word::Text(b"memory"),
@@ -134,7 +140,8 @@ fn write_of_record<'x, K: Sink>(
     held: &mut Held,
     out: &mut K,
 ) -> Result<(), SinkFailed>
-    ensures { Puts K.tells K.faults K.appended out.old held.old out.new held.new (inner (codes "memory" ∷ name.now ∷ decimal index ∷ decimal id ∷ [])) result }
+    ensures { PutsHeldText K.tells K.faults K.appended out.old held.old out.new held.new
+        (inner (codes "memory" ∷ name.now ∷ decimal index ∷ decimal id ∷ [])) result }
 {
     let words = [
         Word::Text(b"memory"),
@@ -156,7 +163,9 @@ fn write_moved<'x, K: Sink>(
     held: &mut Held,
     out: &mut K,
 ) -> Result<(), SinkFailed>
-    ensures { Puts K.tells K.faults K.appended out.old held.old out.new held.new (inner (codes "memory" ∷ name.now ∷ decimal index ∷ decimal k ∷ decimal id ∷ decimal block ∷ block_word bytes.now ∷ [])) result }
+    ensures { PutsHeldText K.tells K.faults K.appended out.old held.old out.new held.new
+        (inner (codes "memory" ∷ name.now ∷ decimal index ∷ decimal k ∷ decimal id ∷ decimal block
+        ∷ block_word bytes.now ∷ [])) result }
 {
     let words = [
         Word::Text(b"memory"),

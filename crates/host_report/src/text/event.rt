@@ -1,10 +1,11 @@
 // The lines of a client's log.
 ghost use Rattle.std.specs.Prelude.{◌≡◌, [], ◌∷◌, codes, decimal};
 ghost use Rattle.host_record.specs.Response.{response_fields};
-ghost use Rattle.host_report.specs.LogText.{answer_line, block_of, cause_word, event_line, event_text, shown_lines, shown_text};
+ghost use Rattle.host_report.specs.LogText.{answer_line, block_of, attach_cause_word, event_line};
+ghost use Rattle.host_report.specs.LogText.{event_text, shown_lines, shown_text};
 ghost use Rattle.host_text.specs.Printed.{printed};
 ghost use Rattle.host_report.specs.Words.{inner, yes_or_no};
-ghost use Rattle.host_text.specs.Writing.{Puts};
+ghost use Rattle.host_text.specs.Writing.{PutsHeldText};
 
 use byteorder::{ByteOrder, LittleEndian};
 use host_block::{BlockSize, Bytes};
@@ -20,7 +21,8 @@ pub fn write_event<K: Sink>(
     held: &mut Held,
     out: &mut K,
 ) -> Result<(), SinkFailed>
-    ensures { Puts K.tells K.faults K.appended out.old held.old out.new held.new (event_text size event.now) result }
+    ensures { PutsHeldText K.tells K.faults K.appended out.old held.old out.new held.new
+        (event_text size event.now) result }
 {
     write_event_line(event, held, out)?;
     match event {
@@ -42,7 +44,8 @@ pub fn write_event<K: Sink>(
 }
 
 fn write_event_line<K: Sink>(event: &Event, held: &mut Held, out: &mut K) -> Result<(), SinkFailed>
-    ensures { Puts K.tells K.faults K.appended out.old held.old out.new held.new (event_line event.now) result }
+    ensures { PutsHeldText K.tells K.faults K.appended out.old held.old out.new held.new
+        (event_line event.now) result }
 {
     match event {
         Event::Attached { pages, id } => write_attached(*pages, *id, held, out),
@@ -74,7 +77,8 @@ fn write_attached<K: Sink>(
     held: &mut Held,
     out: &mut K,
 ) -> Result<(), SinkFailed>
-    ensures { Puts K.tells K.faults K.appended out.old held.old out.new held.new (event_line (Event.Attached pages id)) result }
+    ensures { PutsHeldText K.tells K.faults K.appended out.old held.old out.new held.new
+        (event_line (Event.Attached pages id)) result }
 {
     let words = [
         Word::Text(b"attach"),
@@ -91,7 +95,8 @@ fn write_not_attached<K: Sink>(
     held: &mut Held,
     out: &mut K,
 ) -> Result<(), SinkFailed>
-    ensures { Puts K.tells K.faults K.appended out.old held.old out.new held.new (event_line (Event.NotAttached pages cause)) result }
+    ensures { PutsHeldText K.tells K.faults K.appended out.old held.old out.new held.new
+        (event_line (Event.NotAttached pages cause)) result }
 {
     let words = [
         Word::Text(b"attach"),
@@ -102,7 +107,7 @@ fn write_not_attached<K: Sink>(
 }
 
 fn word_of_cause<'a>(cause: AttachError) -> Word<'a>
-    ensures { printed result ≡ cause_word cause }
+    ensures { printed result ≡ attach_cause_word cause }
 {
     match cause {
         AttachError::NoFrames => Word::Text(b"no-frames"),
@@ -131,7 +136,8 @@ fn write_filled<K: Sink>(
     held: &mut Held,
     out: &mut K,
 ) -> Result<(), SinkFailed>
-    ensures { Puts K.tells K.faults K.appended out.old held.old out.new held.new (event_line (Event.Filled id block count byte done)) result }
+    ensures { PutsHeldText K.tells K.faults K.appended out.old held.old out.new held.new
+        (event_line (Event.Filled id block count byte done)) result }
 {
     let words = [
         Word::Text(b"fill"),
@@ -150,7 +156,8 @@ fn write_sent<K: Sink>(
     held: &mut Held,
     out: &mut K,
 ) -> Result<(), SinkFailed>
-    ensures { Puts K.tells K.faults K.appended out.old held.old out.new held.new (event_line (Event.Sent index bytes.now)) result }
+    ensures { PutsHeldText K.tells K.faults K.appended out.old held.old out.new held.new
+        (event_line (Event.Sent index bytes.now)) result }
 {
     let words = [
         Word::Text(b"send"),
@@ -174,7 +181,8 @@ fn answer_in(bytes: &[u8; 32]) -> Response
 }
 
 fn write_answer<K: Sink>(answer: Response, held: &mut Held, out: &mut K) -> Result<(), SinkFailed>
-    ensures { Puts K.tells K.faults K.appended out.old held.old out.new held.new (answer_line answer) result }
+    ensures { PutsHeldText K.tells K.faults K.appended out.old held.old out.new held.new
+        (answer_line answer) result }
 {
     let words = [
         Word::Text(b"answer"),
@@ -198,7 +206,9 @@ fn write_show<K: Sink>(
     held: &mut Held,
     out: &mut K,
 ) -> Result<(), SinkFailed>
-    ensures { Puts K.tells K.faults K.appended out.old held.old out.new held.new (inner (codes "show" ∷ decimal id ∷ decimal block ∷ decimal count ∷ yes_or_no done ∷ [])) result }
+    ensures { PutsHeldText K.tells K.faults K.appended out.old held.old out.new held.new
+        (inner (codes "show" ∷ decimal id ∷ decimal block ∷ decimal count ∷ yes_or_no done ∷ []))
+        result }
 {
     let words = [
         Word::Text(b"show"),
@@ -221,7 +231,8 @@ fn write_shown<K: Sink>(
     held: &mut Held,
     out: &mut K,
 ) -> Result<(), SinkFailed>
-    ensures { Puts K.tells K.faults K.appended out.old held.old out.new held.new (shown_lines size (Event.Shown id block count done bytes.now)) result }
+    ensures { PutsHeldText K.tells K.faults K.appended out.old held.old out.new held.new
+        (shown_lines size (Event.Shown id block count done bytes.now)) result }
 {
     if done {
         write_blocks(block, count, bytes.as_slice(), size, held, out)
@@ -239,7 +250,8 @@ fn write_blocks<K: Sink>(
     held: &mut Held,
     out: &mut K,
 ) -> Result<(), SinkFailed>
-    ensures { Puts K.tells K.faults K.appended out.old held.old out.new held.new (shown_text size block count bytes.now) result }
+    ensures { PutsHeldText K.tells K.faults K.appended out.old held.old out.new held.new
+        (shown_text size block count bytes.now) result }
 {
     for k in 0..count {
         let words = [

@@ -3,8 +3,9 @@ ghost use Rattle.std.specs.Prelude.{◌≡◌};
 ghost use Rattle.host_gpt.specs.declared.which.Which.{Which};
 ghost use Rattle.host_io.specs.Causes.{HasCause};
 ghost use Rattle.host_text.specs.Printed.{printed};
-ghost use Rattle.host_report.specs.Text.{closing_word, end_text, head_text, report_text, steps_line, steps_text, which_word};
-ghost use Rattle.host_text.specs.Writing.{Puts, Writes};
+ghost use Rattle.host_report.specs.Text.{closing_word, end_text, head_text, report_text};
+ghost use Rattle.host_report.specs.Text.{steps_line, steps_text, which_word};
+ghost use Rattle.host_text.specs.Writing.{PutsHeldText, Writes};
 
 use super::session::write_sessions;
 use super::step::write_steps;
@@ -17,7 +18,8 @@ use host_text::{Held, Word, put_line};
 /// Puts the text of a report, with rows, entries and steps or without.
 pub fn write_report<K: Sink>(report: &Report, steps: bool, out: &mut K) -> Result<(), SinkFailed>
     ensures tells { K.tells out.new ≡ K.tells out.old }
-    ensures text { Writes (K.tells out.old) (K.appended out.old) (K.appended out.new) (report_text report.now steps) result }
+    ensures text { Writes (K.tells out.old) (K.appended out.old) (K.appended out.new)
+        (report_text report.now steps) result }
     ensures cause { HasCause (K.faults out.old) (K.faults out.new) result }
 {
     let mut held = Held::new();
@@ -31,7 +33,8 @@ fn write_text<K: Sink>(
     held: &mut Held,
     out: &mut K,
 ) -> Result<(), SinkFailed>
-    ensures { Puts K.tells K.faults K.appended out.old held.old out.new held.new (report_text report.now steps) result }
+    ensures { PutsHeldText K.tells K.faults K.appended out.old held.old out.new held.new
+        (report_text report.now steps) result }
 {
     write_head(report, held, out)?;
     write_sessions(report.sessions.as_slice(), report.size, steps, held, out)?;
@@ -40,7 +43,8 @@ fn write_text<K: Sink>(
 }
 
 fn write_head<K: Sink>(report: &Report, held: &mut Held, out: &mut K) -> Result<(), SinkFailed>
-    ensures { Puts K.tells K.faults K.appended out.old held.old out.new held.new (head_text report.now) result }
+    ensures { PutsHeldText K.tells K.faults K.appended out.old held.old out.new held.new
+        (head_text report.now) result }
 {
     let image = [
         Word::Text(b"image"),
@@ -72,7 +76,8 @@ fn write_all_steps<K: Sink>(
     held: &mut Held,
     out: &mut K,
 ) -> Result<(), SinkFailed>
-    ensures { Puts K.tells K.faults K.appended out.old held.old out.new held.new (steps_text steps report.now) result }
+    ensures { PutsHeldText K.tells K.faults K.appended out.old held.old out.new held.new
+        (steps_text steps report.now) result }
 {
     write_count(report.steps.len(), held, out)?;
     if steps {
@@ -84,14 +89,16 @@ fn write_all_steps<K: Sink>(
 
 /// Puts the line with the number of steps.
 pub fn write_count<K: Sink>(steps: u64, held: &mut Held, out: &mut K) -> Result<(), SinkFailed>
-    ensures { Puts K.tells K.faults K.appended out.old held.old out.new held.new (steps_line steps) result }
+    ensures { PutsHeldText K.tells K.faults K.appended out.old held.old out.new held.new
+        (steps_line steps) result }
 {
     put_line(b"", &[Word::Text(b"steps"), Word::Number(steps)], held, out)
 }
 
 /// Puts the last two lines.
 pub fn write_end<K: Sink>(closing: Closing, held: &mut Held, out: &mut K) -> Result<(), SinkFailed>
-    ensures { Puts K.tells K.faults K.appended out.old held.old out.new held.new (end_text closing) result }
+    ensures { PutsHeldText K.tells K.faults K.appended out.old held.old out.new held.new
+        (end_text closing) result }
 {
     put_line(
         b"",

@@ -2,7 +2,7 @@
 ghost use Rattle.std.specs.Prelude.{flat_map};
 ghost use Rattle.std.specs.List.{enumerate_from};
 ghost use Rattle.host_report.specs.StepText.{row_line};
-ghost use Rattle.host_text.specs.Writing.{Puts};
+ghost use Rattle.host_text.specs.Writing.{PutsHeldText};
 
 use host_io::{Sink, SinkFailed};
 use host_model::{TakenRow, Verdict};
@@ -14,7 +14,8 @@ pub fn write_rows<K: Sink>(
     held: &mut Held,
     out: &mut K,
 ) -> Result<(), SinkFailed>
-    ensures { Puts K.tells K.faults K.appended out.old held.old out.new held.new (flat_map row_line (enumerate_from 0 rows.now)) result }
+    ensures { PutsHeldText K.tells K.faults K.appended out.old held.old out.new held.new
+        (flat_map row_line (enumerate_from 0 rows.now)) result }
 {
     for (index, row) in rows.iter().enumerate() {
         write_row(index as u64, *row, held, out)?;
@@ -28,7 +29,8 @@ fn write_row<K: Sink>(
     held: &mut Held,
     out: &mut K,
 ) -> Result<(), SinkFailed>
-    ensures { Puts K.tells K.faults K.appended out.old held.old out.new held.new (row_line (index, row)) result }
+    ensures { PutsHeldText K.tells K.faults K.appended out.old held.old out.new held.new
+        (row_line (index, row)) result }
 {
     match row.verdict {
         Verdict::Accepted => {

@@ -2,7 +2,7 @@
 ghost use Rattle.std.specs.Prelude.{true, flat_map};
 ghost use Rattle.host_report.specs.LogText.{event_text};
 ghost use Rattle.host_report.specs.Text.{session_line, session_text, taken_text};
-ghost use Rattle.host_text.specs.Writing.{Puts};
+ghost use Rattle.host_text.specs.Writing.{PutsHeldText};
 
 use super::entry::write_entries;
 use super::event::write_event;
@@ -21,7 +21,8 @@ pub fn write_sessions<K: Sink>(
     held: &mut Held,
     out: &mut K,
 ) -> Result<(), SinkFailed>
-    ensures { Puts K.tells K.faults K.appended out.old held.old out.new held.new (flat_map (session_text size steps) sessions.now) result }
+    ensures { PutsHeldText K.tells K.faults K.appended out.old held.old out.new held.new
+        (flat_map (session_text size steps) sessions.now) result }
 {
     for session in sessions {
         write_session(session, size, steps, held, out)?;
@@ -36,7 +37,8 @@ fn write_session<K: Sink>(
     held: &mut Held,
     out: &mut K,
 ) -> Result<(), SinkFailed>
-    ensures { Puts K.tells K.faults K.appended out.old held.old out.new held.new (session_text size steps session.now) result }
+    ensures { PutsHeldText K.tells K.faults K.appended out.old held.old out.new held.new
+        (session_text size steps session.now) result }
 {
     write_session_line(session, held, out)?;
     write_log(session.log.as_slice(), size, held, out)?;
@@ -52,7 +54,8 @@ fn write_session_line<K: Sink>(
     held: &mut Held,
     out: &mut K,
 ) -> Result<(), SinkFailed>
-    ensures { Puts K.tells K.faults K.appended out.old held.old out.new held.new (session_line session.now) result }
+    ensures { PutsHeldText K.tells K.faults K.appended out.old held.old out.new held.new
+        (session_line session.now) result }
 {
     let words = [
         Word::Text(b"session"),
@@ -73,7 +76,8 @@ fn write_log<K: Sink>(
     held: &mut Held,
     out: &mut K,
 ) -> Result<(), SinkFailed>
-    ensures { Puts K.tells K.faults K.appended out.old held.old out.new held.new (flat_map (event_text size) log.now) result }
+    ensures { PutsHeldText K.tells K.faults K.appended out.old held.old out.new held.new
+        (flat_map (event_text size) log.now) result }
 {
     for event in log {
         write_event(event, size, held, out)?;
@@ -86,7 +90,8 @@ fn write_taken<K: Sink>(
     held: &mut Held,
     out: &mut K,
 ) -> Result<(), SinkFailed>
-    ensures { Puts K.tells K.faults K.appended out.old held.old out.new held.new (taken_text true session.now) result }
+    ensures { PutsHeldText K.tells K.faults K.appended out.old held.old out.new held.new
+        (taken_text true session.now) result }
 {
     write_rows(session.taken.as_slice(), held, out)?;
     write_entries(session.memory.as_slice(), held, out)

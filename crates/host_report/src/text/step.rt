@@ -1,10 +1,11 @@
 // The lines of a device's steps.
 ghost use Rattle.std.specs.Prelude.{◌≡◌, [], ◌∷◌, ◌++◌, flat_map};
 ghost use Rattle.host_text.specs.Printed.{printed};
-ghost use Rattle.host_report.specs.StepText.{ok_or_fault, op_word, printed_block, step_line, step_words};
+ghost use Rattle.host_report.specs.StepText.{ok_or_fault, op_word, printed_block, step_line};
+ghost use Rattle.host_report.specs.StepText.{step_words};
 ghost use Rattle.host_report.specs.Words.{inner};
 ghost use Rattle.host_text.specs.Words.{block_word};
-ghost use Rattle.host_text.specs.Writing.{Puts};
+ghost use Rattle.host_text.specs.Writing.{PutsHeldText};
 
 use host_block::Op;
 use host_io::{Sink, SinkFailed};
@@ -13,7 +14,8 @@ use host_text::{Held, Word, put_line};
 
 /// Puts a line for each step of a device.
 pub fn write_steps<K: Sink>(steps: &[Step], held: &mut Held, out: &mut K) -> Result<(), SinkFailed>
-    ensures { Puts K.tells K.faults K.appended out.old held.old out.new held.new (flat_map step_line steps.now) result }
+    ensures { PutsHeldText K.tells K.faults K.appended out.old held.old out.new held.new
+        (flat_map step_line steps.now) result }
 {
     for step in steps {
         write_step(step, held, out)?;
@@ -22,7 +24,8 @@ pub fn write_steps<K: Sink>(steps: &[Step], held: &mut Held, out: &mut K) -> Res
 }
 
 fn write_step<K: Sink>(step: &Step, held: &mut Held, out: &mut K) -> Result<(), SinkFailed>
-    ensures { Puts K.tells K.faults K.appended out.old held.old out.new held.new (step_line step.now) result }
+    ensures { PutsHeldText K.tells K.faults K.appended out.old held.old out.new held.new
+        (step_line step.now) result }
 {
     match step.op {
         Op::Read if step.faulted => write_bare(step, held, out),
@@ -32,7 +35,8 @@ fn write_step<K: Sink>(step: &Step, held: &mut Held, out: &mut K) -> Result<(), 
 }
 
 fn write_bare<K: Sink>(step: &Step, held: &mut Held, out: &mut K) -> Result<(), SinkFailed>
-    ensures { Puts K.tells K.faults K.appended out.old held.old out.new held.new (inner (step_words step.now)) result }
+    ensures { PutsHeldText K.tells K.faults K.appended out.old held.old out.new held.new
+        (inner (step_words step.now)) result }
 {
     let words = [
         Word::Text(b"step"),
@@ -47,7 +51,8 @@ fn write_bare<K: Sink>(step: &Step, held: &mut Held, out: &mut K) -> Result<(), 
 }
 
 fn write_with_bytes<K: Sink>(step: &Step, held: &mut Held, out: &mut K) -> Result<(), SinkFailed>
-    ensures { Puts K.tells K.faults K.appended out.old held.old out.new held.new (inner (step_words step.now ++ block_word step.now.bytes ∷ [])) result }
+    ensures { PutsHeldText K.tells K.faults K.appended out.old held.old out.new held.new
+        (inner (step_words step.now ++ block_word step.now.bytes ∷ [])) result }
 {
     let words = [
         Word::Text(b"step"),

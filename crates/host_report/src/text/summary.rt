@@ -2,7 +2,7 @@
 ghost use Rattle.std.specs.Prelude.{◌≡◌};
 ghost use Rattle.host_io.specs.Causes.{HasCause};
 ghost use Rattle.host_report.specs.Summary.{answers_line, load_line, summary_text};
-ghost use Rattle.host_text.specs.Writing.{Puts, Writes};
+ghost use Rattle.host_text.specs.Writing.{PutsHeldText, Writes};
 
 use super::counts::counts_of;
 use super::report::{write_count, write_end};
@@ -13,7 +13,8 @@ use host_text::{Held, Word, put_line};
 /// Puts the five lines of a summary.
 pub fn write_summary<K: Sink>(report: &Report, out: &mut K) -> Result<(), SinkFailed>
     ensures tells { K.tells out.new ≡ K.tells out.old }
-    ensures text { Writes (K.tells out.old) (K.appended out.old) (K.appended out.new) (summary_text report.now) result }
+    ensures text { Writes (K.tells out.old) (K.appended out.old) (K.appended out.new)
+        (summary_text report.now) result }
     ensures cause { HasCause (K.faults out.old) (K.faults out.new) result }
 {
     let mut held = Held::new();
@@ -22,7 +23,8 @@ pub fn write_summary<K: Sink>(report: &Report, out: &mut K) -> Result<(), SinkFa
 }
 
 fn write_lines<K: Sink>(report: &Report, held: &mut Held, out: &mut K) -> Result<(), SinkFailed>
-    ensures { Puts K.tells K.faults K.appended out.old held.old out.new held.new (summary_text report.now) result }
+    ensures { PutsHeldText K.tells K.faults K.appended out.old held.old out.new held.new
+        (summary_text report.now) result }
 {
     let sessions = report.sessions.as_slice();
     let counts = counts_of(sessions);
@@ -38,7 +40,8 @@ fn write_load<K: Sink>(
     held: &mut Held,
     out: &mut K,
 ) -> Result<(), SinkFailed>
-    ensures { Puts K.tells K.faults K.appended out.old held.old out.new held.new (load_line sessions records) result }
+    ensures { PutsHeldText K.tells K.faults K.appended out.old held.old out.new held.new
+        (load_line sessions records) result }
 {
     let words = [
         Word::Text(b"load"),
@@ -57,7 +60,8 @@ fn write_answers<K: Sink>(
     held: &mut Held,
     out: &mut K,
 ) -> Result<(), SinkFailed>
-    ensures { Puts K.tells K.faults K.appended out.old held.old out.new held.new (answers_line answers good failed) result }
+    ensures { PutsHeldText K.tells K.faults K.appended out.old held.old out.new held.new
+        (answers_line answers good failed) result }
 {
     let words = [
         Word::Text(b"answers"),

@@ -23,7 +23,8 @@ fn answer_to(fault: u32) -> Status {
     }
 }
 
-// The request with one fault more: group 8, an unknown command, an unknown bit, no block, a range whose sum passes 2^64, an id that wasn't given, a range past the buffer.
+// The request with one fault more: group 8, an unknown command, an unknown bit, no block, a range
+// whose sum passes 2^64, an id that wasn't given, a range past the buffer.
 fn with_fault(r: Request, fault: u32) -> Request {
     match fault {
         0 => member(r, 8),

@@ -10,7 +10,8 @@ use std::sync::Wait;
 use std::test::Fail;
 use std::thread::Threads;
 
-// For each id a buffer of one page is attached and closed, so that no more than a thousand stand. Then comes one attach more.
+// For each id a buffer of one page is attached and closed, so that no more than a thousand stand.
+// Then comes one attach more.
 fn text(alloc: Global, ids: u16) -> Result<Vec<u8>, AllocError> {
     let mut text = b"session 1\n".to_vec(alloc)?;
     for id in 1..=ids {

@@ -6,7 +6,8 @@ use host_session::AttachError;
 use std::sync::Wait;
 use std::test::*;
 
-// A buffer of one page is given, closed and answered. Tells whether it had this id and was closed well.
+// A buffer of one page is given, closed and answered. Tells whether it had this id and was closed
+// well.
 fn give_and_close<R: Wait>(rt: &R, desk: &mut Desk, id: u16) -> bool {
     if desk.attach(rt, 1) != Some(Ok(id)) {
         return false;

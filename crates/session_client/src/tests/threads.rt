@@ -1,4 +1,5 @@
-//! The client in one thread, and in another the hand, which ends each record as the plain judge says. The plain judge looks at each session.
+//! The client in one thread, and in another the hand, which ends each record as the plain judge
+//! says. The plain judge looks at each session.
 use super::{close, flush, last, member, read, request, trim};
 use crate::{Deed, PART, Sizes, end_under, run_pair};
 use buffer_check::{events_of, is_buffer_history};
@@ -31,7 +32,8 @@ fn is_well(
     Ok(told && taken && answered)
 }
 
-// Whether each record, which the hand ended by the plain verdict, ended as the intake's own verdict has it.
+// Whether each record, which the hand ended by the plain verdict, ended as the intake's own verdict
+// has it.
 fn end_alike(rows: &[TakenRow]) -> bool {
     rows.iter().all(|row| row.outcome == end_under(row.verdict))
 }

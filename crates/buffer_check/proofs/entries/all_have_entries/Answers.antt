@@ -1,4 +1,4 @@
-use Rattle.buffer_check.specs.Entries.{HasEntriesBy}
+use Rattle.buffer_check.specs.{HasEntriesBy}
 use Rattle.record_check.proofs.Deciding.{each_more}
 use Rattle.buffer_check.proofs.entries.all_have_entries.Goals as goal
 

@@ -1,5 +1,5 @@
 use Rattle.std.proofs.Common.{ℕ, ◌↔◌, ◌<◌, IsTrue}
-use Rattle.buffer_check.specs.Entries.{HasEntriesBy}
+use Rattle.buffer_check.specs.{HasEntriesBy}
 use Rattle.buffer_check.proofs.entries.all_have_entries.Given as goal
 
 abbrev pub invariant-loop-i : goal.invariant-loop-i

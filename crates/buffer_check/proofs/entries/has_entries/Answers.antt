@@ -1,8 +1,6 @@
 use Rattle.std.proofs.Common.{◌↔◌, IsTrue, subst, ◌∙◌}
-use Rattle.host_model.specs.Carrying.{steps_of}
-use Rattle.host_model.specs.Log.{request_at}
-use Rattle.host_model.specs.Taking.{row_at}
-use Rattle.buffer_check.specs.Entries.{AreOwed}
+use Rattle.host_model.specs.{steps_of, request_at, row_at}
+use Rattle.buffer_check.specs.{AreOwed}
 use Rattle.buffer_check.proofs.entries.has_entries.Goals as goal
 
 pub returns : goal.returns

@@ -1,5 +1,5 @@
 use Rattle.std.proofs.Common.{◌≡◌, filter, take}
-use Rattle.host_model.specs.ClientEntries.{is_client}
+use Rattle.host_model.specs.{is_client}
 use Rattle.buffer_check.proofs.history.client_entries.Given as goal
 
 abbrev pub invariant-loop-event : goal.invariant-loop-event

@@ -1,5 +1,5 @@
 use Rattle.std.proofs.Common.{◌≡◌, take}
-use Rattle.host_model.specs.RecordEntries.{entries_of}
+use Rattle.host_model.specs.{entries_of}
 use Rattle.buffer_check.proofs.history.record_entries.Given as goal
 
 abbrev pub invariant-loop-event : goal.invariant-loop-event

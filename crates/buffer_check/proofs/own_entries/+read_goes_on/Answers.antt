@@ -1,6 +1,5 @@
 use Rattle.std.proofs.Common.{[], ◌∷◌, ◌++◌, ◌↔◌, ◌≡◌, true, false, not, IsTrue, ap, map, subst, sym}
-use Rattle.host_model.specs.declared.memory.MemEvent.TheVariants.{Done}
-use Rattle.host_model.specs.RecordEntries.{land_for}
+use Rattle.host_model.specs.{Done, land_for}
 use Rattle.buffer_check.proofs.EntryLemmas.{cons_on, filter_split}
 use Rattle.buffer_check.proofs.own_entries.+read_goes_on.Goals as goal
 

@@ -1,4 +1,4 @@
-use Rattle.host_model.specs.Pages.{found_by}
+use Rattle.host_model.specs.{found_by}
 use Rattle.record_check.proofs.BeforeLemmas.{map_step}
 use Rattle.buffer_check.proofs.pages.all_found.Goals as goal
 

@@ -1,4 +1,4 @@
-use Rattle.host_model.specs.Pages.{shown_bytes}
+use Rattle.host_model.specs.{shown_bytes}
 use Rattle.record_check.proofs.BeforeLemmas.{filter_map_step}
 use Rattle.buffer_check.proofs.pages.all_shown.Goals as goal
 

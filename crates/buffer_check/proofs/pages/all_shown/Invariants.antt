@@ -1,5 +1,5 @@
 use Rattle.std.proofs.Common.{◌≡◌, filter_map, take}
-use Rattle.host_model.specs.Pages.{shown_bytes}
+use Rattle.host_model.specs.{shown_bytes}
 use Rattle.buffer_check.proofs.pages.all_shown.Given as goal
 
 abbrev pub invariant-loop-event : goal.invariant-loop-event

@@ -1,4 +1,4 @@
-use Rattle.host_model.specs.Pages.{lifts_page}
+use Rattle.host_model.specs.{lifts_page}
 use Rattle.record_check.proofs.BeforeLemmas.{before_step}
 use Rattle.buffer_check.proofs.pages.lifts_are_right.Goals as goal
 

@@ -1,6 +1,5 @@
 use Rattle.std.proofs.Common.{◌≡◌, take}
-use Rattle.host_model.specs.Lists.{all_with_before}
-use Rattle.host_model.specs.Pages.{lifts_page}
+use Rattle.host_model.specs.{all_with_before, lifts_page}
 use Rattle.buffer_check.proofs.pages.lifts_are_right.Given as goal
 
 abbrev pub invariant-loop-i : goal.invariant-loop-i

@@ -1,5 +1,5 @@
 use Rattle.std.proofs.Common.{◌≡◌, take}
-use Rattle.host_model.specs.Pages.{page_at}
+use Rattle.host_model.specs.{page_at}
 use Rattle.buffer_check.proofs.pages.page.Given as goal
 
 abbrev pub invariant-loop-event : goal.invariant-loop-event

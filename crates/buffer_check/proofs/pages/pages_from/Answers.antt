@@ -1,4 +1,4 @@
-use Rattle.host_model.specs.Pages.{page_at}
+use Rattle.host_model.specs.{page_at}
 use Rattle.record_check.proofs.GroupLemmas.{flat_map_step}
 use Rattle.buffer_check.proofs.pages.pages_from.Goals as goal
 

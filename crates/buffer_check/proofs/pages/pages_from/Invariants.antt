@@ -1,6 +1,6 @@
 use Rattle.std.proofs.Common.{◌≡◌, flat_map}
 use Rattle.std.specs.List.{range_with_len}
-use Rattle.host_model.specs.Pages.{page_at}
+use Rattle.host_model.specs.{page_at}
 use Rattle.buffer_check.proofs.pages.pages_from.Given as goal
 
 abbrev pub invariant-loop-k : goal.invariant-loop-k

@@ -1,4 +1,4 @@
-use Rattle.host_model.specs.ClientEntries.{is_client}
+use Rattle.host_model.specs.{is_client}
 use Rattle.buffer_check.proofs.PlaceLemmas.{places_step}
 use Rattle.buffer_check.proofs.places.client_places.Goals as goal
 

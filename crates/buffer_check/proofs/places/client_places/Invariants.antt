@@ -1,6 +1,5 @@
 use Rattle.std.proofs.Common.{◌≡◌, take}
-use Rattle.host_model.specs.ClientEntries.{is_client}
-use Rattle.host_model.specs.Lists.{places}
+use Rattle.host_model.specs.{is_client, places}
 use Rattle.buffer_check.proofs.places.client_places.Given as goal
 
 abbrev pub invariant-loop-i : goal.invariant-loop-i

@@ -1,6 +1,6 @@
 use Rattle.std.proofs.Common.{◌==◌, Some}
 use Rattle.std.specs.Option.{option_eq}
-use Rattle.buffer_check.specs.Owners.{owner_by}
+use Rattle.buffer_check.specs.{owner_by}
 use Rattle.buffer_check.proofs.PlaceLemmas.{places_step}
 use Rattle.buffer_check.proofs.places.entry_places.Goals as goal
 

@@ -1,7 +1,7 @@
 use Rattle.std.proofs.Common.{◌≡◌, ◌==◌, Some, take}
 use Rattle.std.specs.Option.{option_eq}
-use Rattle.host_model.specs.Lists.{places}
-use Rattle.buffer_check.specs.Owners.{owner_by}
+use Rattle.host_model.specs.{places}
+use Rattle.buffer_check.specs.{owner_by}
 use Rattle.buffer_check.proofs.places.entry_places.Given as goal
 
 abbrev pub invariant-loop-i : goal.invariant-loop-i

@@ -1,4 +1,4 @@
-use Rattle.host_model.specs.Releases.{is_release_of}
+use Rattle.host_model.specs.{is_release_of}
 use Rattle.buffer_check.proofs.PlaceLemmas.{places_step}
 use Rattle.buffer_check.proofs.places.release_places.Goals as goal
 

@@ -1,6 +1,5 @@
 use Rattle.std.proofs.Common.{◌≡◌, take}
-use Rattle.host_model.specs.Releases.{is_release_of}
-use Rattle.host_model.specs.Lists.{places}
+use Rattle.host_model.specs.{is_release_of, places}
 use Rattle.buffer_check.proofs.places.release_places.Given as goal
 
 abbrev pub invariant-loop-i : goal.invariant-loop-i

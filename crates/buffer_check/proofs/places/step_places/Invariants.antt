@@ -1,5 +1,5 @@
 use Rattle.std.proofs.Common.{◌≡◌, ◌==◌, take}
-use Rattle.host_model.specs.Lists.{places}
+use Rattle.host_model.specs.{places}
 use Rattle.buffer_check.proofs.places.step_places.Given as goal
 
 abbrev pub invariant-loop-i : goal.invariant-loop-i

@@ -1,4 +1,4 @@
-use Rattle.host_model.specs.Releases.{pins_before_close}
+use Rattle.host_model.specs.{pins_before_close}
 use Rattle.record_check.proofs.BeforeLemmas.{before_step}
 use Rattle.buffer_check.proofs.releases.all_pin_rightly.Goals as goal
 

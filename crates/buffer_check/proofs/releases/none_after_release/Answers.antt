@@ -1,4 +1,4 @@
-use Rattle.host_model.specs.Releases.{comes_before_release}
+use Rattle.host_model.specs.{comes_before_release}
 use Rattle.record_check.proofs.BeforeLemmas.{before_step}
 use Rattle.buffer_check.proofs.releases.none_after_release.Goals as goal
 

@@ -1,6 +1,5 @@
 use Rattle.std.proofs.Common.{◌≡◌, take}
-use Rattle.host_model.specs.Lists.{all_with_before}
-use Rattle.host_model.specs.Releases.{comes_before_release}
+use Rattle.host_model.specs.{all_with_before, comes_before_release}
 use Rattle.buffer_check.proofs.releases.none_after_release.Given as goal
 
 abbrev pub invariant-loop-i : goal.invariant-loop-i

@@ -1,8 +1,6 @@
 use Rattle.std.proofs.Common.{length, ap, ◌∙◌}
-use Rattle.host_model.specs.Lists.{all_with_before}
-use Rattle.host_model.specs.Log.{given_before, requests}
-use Rattle.host_model.specs.Verdict.{verdicts_on}
-use Rattle.buffer_check.specs.Owners.{is_used_by}
+use Rattle.host_model.specs.{all_with_before, given_before, requests, verdicts_on}
+use Rattle.buffer_check.specs.{is_used_by}
 use Rattle.buffer_check.proofs.session.are_used_rightly.Goals as goal
 
 pub returns : goal.returns

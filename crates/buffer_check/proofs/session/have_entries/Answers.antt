@@ -1,5 +1,5 @@
 use Rattle.std.proofs.Common.{ℕ, ◌↔◌, ◌<◌, IsTrue, length, subst, ◌∙◌}
-use Rattle.buffer_check.specs.Entries.{HasEntriesBy}
+use Rattle.buffer_check.specs.{HasEntriesBy}
 use Rattle.buffer_check.proofs.session.have_entries.Goals as goal
 
 pub returns : goal.returns

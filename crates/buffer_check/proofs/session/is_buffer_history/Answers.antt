@@ -1,5 +1,5 @@
 use Rattle.std.proofs.Common.{◌∙◌}
-use Rattle.record_check.specs.Session.{session_with}
+use Rattle.record_check.specs.{session_with}
 use Rattle.buffer_check.proofs.SessionLemmas.{all_used_is, buffers_is}
 use Rattle.buffer_check.proofs.session.is_buffer_history.Goals as goal
 

@@ -1,4 +1,4 @@
-use Rattle.buffer_check.specs.Owners.{is_used_by}
+use Rattle.buffer_check.specs.{is_used_by}
 use Rattle.record_check.proofs.BeforeLemmas.{before_step}
 use Rattle.buffer_check.proofs.used.all_used_rightly.Goals as goal
 

@@ -1,6 +1,6 @@
 use Rattle.std.proofs.Common.{◌≡◌, take}
-use Rattle.host_model.specs.Lists.{all_with_before}
-use Rattle.buffer_check.specs.Owners.{is_used_by}
+use Rattle.host_model.specs.{all_with_before}
+use Rattle.buffer_check.specs.{is_used_by}
 use Rattle.buffer_check.proofs.used.all_used_rightly.Given as goal
 
 abbrev pub invariant-loop-i : goal.invariant-loop-i

@@ -1,6 +1,6 @@
 use Rattle.std.proofs.Common.{ap, cond, not, ◌||◌, ◌∙◌}
-use Rattle.host_model.specs.Buffers.{is_in_buffer}
-use Rattle.buffer_check.specs.Owners.{was_released_by}
+use Rattle.host_model.specs.{is_in_buffer}
+use Rattle.buffer_check.specs.{was_released_by}
 use Rattle.buffer_check.proofs.used.is_answer_here.Goals as goal
 
 pub returns : goal.returns

@@ -1,5 +1,5 @@
 use Rattle.std.proofs.Common.{◌≡◌, IfOk, subst, sym}
-use Rattle.buffer_check.specs.Owners.{is_used_by}
+use Rattle.buffer_check.specs.{is_used_by}
 use Rattle.buffer_check.proofs.used.is_used_rightly.Goals as goal
 
 pub returns-in-Filled : goal.returns-in-Filled

@@ -1,5 +1,5 @@
 use Rattle.std.proofs.Common.{◌≡◌, filter, take}
-use Rattle.host_report.specs.Lawful.{is_of_sessions}
+use Rattle.host_report.specs.{is_of_sessions}
 use Rattle.host_check.proofs.closing.of_sessions.Given as goal
 
 abbrev pub invariant-loop-step : goal.invariant-loop-step

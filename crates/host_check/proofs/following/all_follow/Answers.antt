@@ -1,4 +1,4 @@
-use Rattle.host_check.specs.Had.{follows_by}
+use Rattle.host_check.specs.{follows_by}
 use Rattle.record_check.proofs.GroupLemmas.{below_step}
 use Rattle.host_check.proofs.following.all_follow.Goals as goal
 

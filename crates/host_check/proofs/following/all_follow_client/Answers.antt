@@ -1,4 +1,4 @@
-use Rattle.host_check.specs.Had.{client_by}
+use Rattle.host_check.specs.{client_by}
 use Rattle.record_check.proofs.GroupLemmas.{below_step}
 use Rattle.host_check.proofs.following.all_follow_client.Goals as goal
 

@@ -1,7 +1,7 @@
 use Rattle.std.proofs.Common.{◌≡◌}
 use Rattle.std.specs.List.{list_all}
-use Rattle.host_model.specs.Lists.{below}
-use Rattle.host_check.specs.Had.{client_by}
+use Rattle.host_model.specs.{below}
+use Rattle.host_check.specs.{client_by}
 use Rattle.host_check.proofs.following.all_follow_client.Given as goal
 
 abbrev pub invariant-loop-i : goal.invariant-loop-i

@@ -1,4 +1,4 @@
-use Rattle.host_check.specs.Had.{is_ordered_by}
+use Rattle.host_check.specs.{is_ordered_by}
 use Rattle.record_check.proofs.GroupLemmas.{below_step}
 use Rattle.host_check.proofs.following.all_ordered.Goals as goal
 

@@ -1,4 +1,4 @@
-use Rattle.host_check.specs.Had.{precedes_by}
+use Rattle.host_check.specs.{precedes_by}
 use Rattle.record_check.proofs.GroupLemmas.{below_step}
 use Rattle.host_check.proofs.following.all_precede.Goals as goal
 

@@ -1,5 +1,5 @@
 use Rattle.std.proofs.Common.{ap, ◌∙◌}
-use Rattle.host_check.specs.Had.{had_of, is_ordered_after, steps_at}
+use Rattle.host_check.specs.{had_of, is_ordered_after, steps_at}
 use Rattle.host_check.proofs.OrderLemmas.{length-had}
 use Rattle.host_check.proofs.following.is_ordered.Goals as goal
 

@@ -1,5 +1,5 @@
 use Rattle.std.proofs.Common.{nat_lt, ap, ◌∙◌}
-use Rattle.host_report.specs.Lawful.{pages_asked}
+use Rattle.host_report.specs.{pages_asked}
 use Rattle.host_check.proofs.RunLemmas.{more_than}
 use Rattle.host_check.proofs.frames.are_too_many.Goals as goal
 

@@ -1,6 +1,6 @@
 use Rattle.std.proofs.Common.{◌↔◌, ◌==◌, ◌&&◌, IsTrue, nat_eq, length, ap, subst, sym, ◌∙◌}
 use Rattle.std.specs.List.{list_all}
-use Rattle.host_report.specs.Lawful.{IsOfImage}
+use Rattle.host_report.specs.{IsOfImage}
 use Rattle.host_check.proofs.ImageLemmas.{image_is}
 use Rattle.host_check.proofs.image.is_of_image.Goals as goal
 

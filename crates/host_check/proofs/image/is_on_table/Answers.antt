@@ -1,6 +1,6 @@
 use Rattle.std.proofs.Common.{◌↔◌, IsTrue, subst}
 use Rattle.std.specs.List.{AllByRecursion}
-use Rattle.host_part.specs.Ranges.{IsRangeOf}
+use Rattle.host_part.specs.{IsRangeOf}
 use Rattle.host_check.proofs.ImageLemmas.{table_is}
 use Rattle.host_check.proofs.image.is_on_table.Goals as goal
 

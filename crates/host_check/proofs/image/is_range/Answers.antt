@@ -1,6 +1,6 @@
 use Rattle.std.proofs.Common.{rules, subst}
 use Rattle.host_part.proofs.RangeLemmas.{one_range, served_not_bad}
-use Rattle.host_part.specs.Ranges.{IsRangeOf}
+use Rattle.host_part.specs.{IsRangeOf}
 use Rattle.host_check.proofs.image.is_range.Goals as goal
 
 pub returns-in-Ok : goal.returns-in-Ok

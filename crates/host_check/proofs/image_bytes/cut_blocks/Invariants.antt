@@ -1,5 +1,5 @@
 use Rattle.std.proofs.Common.{◌≡◌, ◌++◌, length}
-use Rattle.host_io.specs.Flat.{image_of}
+use Rattle.host_io.specs.{image_of}
 use Rattle.host_check.proofs.image_bytes.cut_blocks.Given as goal
 
 abbrev pub invariant-loop-rest : goal.invariant-loop-rest

@@ -1,7 +1,7 @@
 use Rattle.std.proofs.Common.{subst}
-use Rattle.host_io.specs.Flat.{image_of}
+use Rattle.host_io.specs.{image_of}
 use Rattle.host_check.proofs.ImageBytesLemmas.{not_lawful}
-use Rattle.host_check.specs.ImageBytes.{HasNoTable, IsTableIn}
+use Rattle.host_check.specs.{HasNoTable, IsTableIn}
 use Rattle.host_check.proofs.image_bytes.is_lawful_image.Goals as goal
 
 pub returns : goal.returns

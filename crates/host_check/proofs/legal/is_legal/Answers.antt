@@ -1,6 +1,6 @@
 use Rattle.std.proofs.Common.{◌↔◌, IsTrue, subst, sym}
-use Rattle.host_block.specs.Changes.{IsLegal}
-use Rattle.host_model.specs.Changes.{changes_of}
+use Rattle.host_block.specs.{IsLegal}
+use Rattle.host_model.specs.{changes_of}
 use Rattle.host_check.proofs.LegalLemmas.{legal_is}
 use Rattle.host_check.proofs.legal.is_legal.Goals as goal
 

@@ -1,6 +1,6 @@
 use Rattle.std.proofs.Common.{arith, take}
-use Rattle.host_model.specs.Log.{requests}
-use Rattle.host_check.specs.Had.{had_by}
+use Rattle.host_model.specs.{requests}
+use Rattle.host_check.specs.{had_by}
 use Rattle.record_check.proofs.GroupLemmas.{map_below_end, map_below_step}
 use Rattle.host_check.proofs.order.had_each.Goals as goal
 

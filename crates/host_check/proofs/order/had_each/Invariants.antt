@@ -1,7 +1,6 @@
 use Rattle.std.proofs.Common.{◌≡◌, map, take}
-use Rattle.host_model.specs.Lists.{below}
-use Rattle.host_model.specs.Log.{requests}
-use Rattle.host_check.specs.Had.{had_by}
+use Rattle.host_model.specs.{below, requests}
+use Rattle.host_check.specs.{had_by}
 use Rattle.host_check.proofs.order.had_each.Given as goal
 
 abbrev pub invariant-loop-m : goal.invariant-loop-m

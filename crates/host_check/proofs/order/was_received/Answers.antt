@@ -1,9 +1,6 @@
 use Rattle.std.proofs.Common.{ap, filter, length, map, nat_eq, nat_lt, ◌∙◌}
 use Rattle.std.specs.Str.{bytes_eq}
-use Rattle.host_model.specs.Answers.{answer_bytes}
-use Rattle.host_model.specs.Groups.{owed}
-use Rattle.host_model.specs.Lists.{count}
-use Rattle.host_model.specs.Log.{received}
+use Rattle.host_model.specs.{answer_bytes, owed, count, received}
 use Rattle.host_check.proofs.order.was_received.Goals as goal
 
 pub returns : goal.returns

@@ -1,5 +1,5 @@
 use Rattle.std.proofs.Common.{◌↔◌, ◌≡◌, ◌++◌, IsTrue, filter, subst}
-use Rattle.host_report.specs.Lawful.{closing_steps, is_of_sessions}
+use Rattle.host_report.specs.{closing_steps, is_of_sessions}
 use Rattle.host_check.proofs.report.is_closed_rightly.Goals as goal
 
 pub returns : goal.returns

@@ -1,10 +1,8 @@
 use Rattle.std.proofs.Common.{◌↔◌, ◌≡◌, IsTrue, length, map, nat_lt, ap, subst, ◌∙◌}
 use Rattle.std.specs.List.{AllByRecursion, range_with_len}
-use Rattle.host_block.specs.Changes.{IsLegal}
-use Rattle.host_model.specs.Changes.{changes_of}
-use Rattle.host_model.specs.LawfulSession.{IsLawfulSession}
-use Rattle.host_model.specs.Lists.{implies}
-use Rattle.host_report.specs.Lawful.{pages_asked, ran_short, session_of}
+use Rattle.host_block.specs.{IsLegal}
+use Rattle.host_model.specs.{changes_of, IsLawfulSession, implies}
+use Rattle.host_report.specs.{pages_asked, ran_short, session_of}
 use Rattle.host_check.proofs.report.run_parts.Goals as goal
 
 pub returns : goal.returns

@@ -1,6 +1,6 @@
 use Rattle.std.proofs.Common.{◌==◌, filter, map, ap, subst, ◌∙◌}
-use Rattle.record_check.specs.Session.{session_with}
-use Rattle.host_check.specs.Parts.{TellsSession}
+use Rattle.record_check.specs.{session_with}
+use Rattle.host_check.specs.{TellsSession}
 use Rattle.host_check.proofs.run.session_parts.Goals as goal
 
 pub returns : goal.returns

@@ -1,9 +1,7 @@
 use Rattle.std.proofs.Common.{◌↔◌, IsTrue, ap, subst, sym, ◌∙◌}
-use Rattle.host_model.specs.Log.{given_before, requests}
-use Rattle.host_model.specs.Order.{KeepsOrder}
-use Rattle.host_model.specs.Verdict.{verdicts_on}
-use Rattle.host_check.specs.Had.{is_order_kept}
-use Rattle.record_check.specs.Session.{session_with}
+use Rattle.host_model.specs.{given_before, requests, KeepsOrder, verdicts_on}
+use Rattle.host_check.specs.{is_order_kept}
+use Rattle.record_check.specs.{session_with}
 use Rattle.host_check.proofs.OrderLemmas.{order_is_tested}
 use Rattle.host_check.proofs.session.keeps_order.Goals as goal
 

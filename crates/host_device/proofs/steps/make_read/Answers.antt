@@ -1,12 +1,8 @@
 use Rattle.std.proofs.Common.{List, ◌++◌, sym, ap, ◌∙◌, subst, Result}
-use Rattle.host_block.specs.declared.op.Op.TheVariants.{Read}
-use Rattle.host_cache.specs.Seen.{shape_of}
-use Rattle.host_model.specs.declared.step.Step.{Step}
-use Rattle.host_model.specs.Changes.{changes_of}
-use Rattle.host_device.specs.declared.error.StepError.{StepError}
-use Rattle.host_device.specs.CacheSteps.{CallsCache, HasContentBy, AreGiven}
-use Rattle.host_device.specs.Calls.{IsCacheCall}
-use Rattle.host_device.specs.Entries.{answer_alone}
+use Rattle.host_block.specs.{Read}
+use Rattle.host_cache.specs.{shape_of}
+use Rattle.host_model.specs.{Step, changes_of}
+use Rattle.host_device.specs.{StepError, CallsCache, HasContentBy, AreGiven, IsCacheCall, answer_alone}
 use Rattle.host_device.proofs.EntryLemmas.{entered, given_bytes}
 use Rattle.host_device.proofs.steps.make_read.Goals as goal
 

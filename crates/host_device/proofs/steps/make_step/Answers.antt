@@ -1,10 +1,7 @@
 use Rattle.std.proofs.Common.{List, ◌++◌, sym, ap, ◌∙◌, subst, Result}
-use Rattle.host_cache.specs.Seen.{shape_of}
-use Rattle.host_model.specs.declared.step.Step.{Step}
-use Rattle.host_model.specs.Changes.{changes_of}
-use Rattle.host_device.specs.declared.error.StepError.{StepError}
-use Rattle.host_device.specs.CacheSteps.{CallsCache, HasContentBy, AreGiven}
-use Rattle.host_device.specs.Calls.{IsCacheCall}
+use Rattle.host_cache.specs.{shape_of}
+use Rattle.host_model.specs.{Step, changes_of}
+use Rattle.host_device.specs.{StepError, CallsCache, HasContentBy, AreGiven, IsCacheCall}
 use Rattle.host_device.proofs.EntryLemmas.{entered}
 use Rattle.host_device.proofs.steps.make_step.Goals as goal
 

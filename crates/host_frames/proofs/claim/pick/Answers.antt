@@ -1,6 +1,5 @@
 use Rattle.std.proofs.Common.{arith, refl, sym, ap, ◌≢◌, ◌+◌, ◌<◌, ℕ, subst, length}
-use Rattle.host_frames.specs.Sums.{frames_in}
-use Rattle.host_frames.specs.Moments.{IsPick}
+use Rattle.host_frames.specs.{frames_in, IsPick}
 use Rattle.host_frames.proofs.Bits.{none_set}
 use Rattle.host_frames.proofs.Picking.{pick_starts, is_clear, is_set, pick_takes, pick_passes, pick_counts}
 use Rattle.host_frames.proofs.claim.pick.Goals as goal

@@ -1,6 +1,5 @@
 use Rattle.std.proofs.Common.{◌≡◌, ◌+◌, ◌≤◌, length}
-use Rattle.host_frames.specs.Sums.{frames_in}
-use Rattle.host_frames.specs.Moments.{IsPick}
+use Rattle.host_frames.specs.{frames_in, IsPick}
 use Rattle.host_frames.proofs.claim.pick.Given as goal
 
 abbrev pub invariant-loop-j : goal.invariant-loop-j

@@ -1,7 +1,7 @@
 use Rattle.std.proofs.Common.{arith, refl, sym, subst, All}
 use Rattle.std.specs.Prelude.{Some}
 use Rattle.std.proofs.lemmas.List.Elements.{All-push}
-use Rattle.host_frames.specs.Homes.{IsBlankSlot}
+use Rattle.host_frames.specs.{IsBlankSlot}
 use Rattle.host_frames.proofs.pool.blank_slots.Goals as goal
 
 pub loop-preserved : goal.loop-preserved

@@ -1,5 +1,5 @@
 use Rattle.std.proofs.Common.{◌≡◌, ◌≤◌, All, vec_len, vec_capacity}
-use Rattle.host_frames.specs.Homes.{IsBlankSlot}
+use Rattle.host_frames.specs.{IsBlankSlot}
 use Rattle.host_frames.proofs.pool.blank_slots.Given as goal
 
 abbrev pub invariant-loop : goal.invariant-loop

@@ -1,7 +1,7 @@
 use Rattle.std.proofs.Common.{◌≡◌, ◌+◌, ◌∙◌, ℕ, ap, sym, arith, get_or, false, [], ◌∷◌}
 use lib.ListN.{get_elem?}
 use Rattle.std.specs.Slots.{slots_items, slots_filled, slots_len, slots_counts}
-use Rattle.host_frames.specs.Homes.{pages_at_home}
+use Rattle.host_frames.specs.{pages_at_home}
 use Rattle.host_frames.proofs.Closing.{home_more, home_some, home_none, home_most, flags_after}
 use Rattle.host_frames.proofs.pool.count_home.Goals as goal
 use Rattle.host_frames.proofs.pool.count_home.Goals.{then-is_some, else-is_some}

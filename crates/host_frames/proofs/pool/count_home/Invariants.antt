@@ -1,6 +1,6 @@
 use Rattle.std.proofs.Common.{◌≡◌, ℕ, ◌<◌, ◌≤◌, true, false, get_or, take}
 use Rattle.std.specs.Slots.{slots_filled, slots_len, slots_items}
-use Rattle.host_frames.specs.Homes.{pages_at_home}
+use Rattle.host_frames.specs.{pages_at_home}
 use Rattle.host_frames.proofs.pool.count_home.Given as goal
 
 abbrev pub invariant-loop-i : goal.invariant-loop-i

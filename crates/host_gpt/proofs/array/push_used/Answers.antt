@@ -1,8 +1,8 @@
 use Rattle.std.proofs.Common.{◌∷◌, [], ◌++◌, List, sym, ◌∙◌, ap}
 use Rattle.std.proofs.lemmas.List.{append-nil}
 use Rattle.host_gpt.proofs.EntryLemmas.{used_one, used_none}
-use Rattle.host_block.specs.Room.{WithRoom}
-use Rattle.host_gpt.specs.declared.entry.Entry.{Entry}
+use Rattle.host_block.specs.{WithRoom}
+use Rattle.host_gpt.specs.{Entry}
 use Rattle.host_gpt.proofs.array.push_used.Goals as goal
 
 pub returns-then-is_used_entry-clause-added : goal.returns-then-is_used_entry-clause-added

@@ -1,8 +1,7 @@
 use Rattle.std.proofs.Common.{◌≡◌, ℕ, ◌+◌, ◌-◌, ◌*◌, ◌++◌, List, length, take, drop, sym, ◌∙◌, ap, arith, length-append}
 use Rattle.host_gpt.proofs.EntryLemmas.{entries_more, entries_none, used_few}
-use Rattle.host_gpt.specs.Entries.{entries_from, used}
+use Rattle.host_gpt.specs.{entries_from, used, Entry}
 use Rattle.host_gpt.proofs.UsedLemmas.{are_used}
-use Rattle.host_gpt.specs.declared.entry.Entry.{Entry}
 use Rattle.host_gpt.proofs.array.used_entries.Goals as goal
 
 pub loop-i-preserved : goal.loop-i-preserved

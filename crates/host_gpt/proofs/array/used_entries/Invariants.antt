@@ -1,5 +1,5 @@
 use Rattle.std.proofs.Common.{◌≡◌, ◌≤◌, ◌+◌, ◌-◌, ◌*◌, ◌++◌, length, drop}
-use Rattle.host_gpt.specs.Entries.{entries_from}
+use Rattle.host_gpt.specs.{entries_from}
 use Rattle.host_gpt.proofs.array.used_entries.Given as goal
 
 abbrev pub invariant-loop-i : goal.invariant-loop-i

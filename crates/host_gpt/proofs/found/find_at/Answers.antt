@@ -1,15 +1,10 @@
 use Rattle.std.proofs.Common.{◌≡◌, ◌<◌, ℕ, List, length, refl, sym, ◌∙◌, ap, subst, Option, IsTrue, inl, inr}
 use Rattle.std.proofs.lemmas.Bool.{cases_lt}
-use Rattle.host_block.specs.Disk.{DiskState, block_at}
-use Rattle.host_io.specs.Disks.{Shape}
+use Rattle.host_block.specs.{DiskState, block_at}
+use Rattle.host_io.specs.{Shape}
 use Rattle.host_gpt.proofs.BlockLemmas.{image_length, block_length}
 use Rattle.host_gpt.proofs.FoundLemmas.{finds_none, finds_large, finds_outside, finds_wrong, finds_valid}
-use Rattle.host_gpt.specs.Crc.{crc_of}
-use Rattle.host_gpt.specs.Entries.{entries_from}
-use Rattle.host_gpt.specs.Header.{IsLarge, array_length}
-use Rattle.host_gpt.specs.Image.{current_image}
-use Rattle.host_gpt.specs.Reads.{HeaderAt, IsHeaderAt}
-use Rattle.host_gpt.specs.Table.{array_of}
+use Rattle.host_gpt.specs.{crc_of, entries_from, IsLarge, array_length, current_image, HeaderAt, IsHeaderAt, array_of}
 use Rattle.host_gpt.specs.declared.header.Header.{Header}
 use Rattle.host_gpt.proofs.found.find_at.Goals as goal
 

@@ -1,7 +1,6 @@
 use Rattle.std.proofs.Common.{◌≤◌, ℕ, length, take, ◌∙◌, ap, arith}
 use Rattle.host_gpt.proofs.BlockLemmas.{front_of_blocks}
-use Rattle.host_gpt.specs.Header.{array_length}
-use Rattle.host_gpt.specs.Image.{current_image}
+use Rattle.host_gpt.specs.{array_length, current_image}
 use Rattle.host_gpt.proofs.found.read_array.Goals as goal
 
 pub returns-clause-bytes : goal.returns-clause-bytes

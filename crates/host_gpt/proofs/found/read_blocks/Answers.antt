@@ -1,9 +1,9 @@
 use Rattle.std.proofs.Common.{◌≡◌, ◌+◌, ◌<◌, ◌++◌, IsTrue, length, sym, ◌∙◌, ap, subst, arith}
-use Rattle.host_block.specs.Disk.{DiskState, block_at, read_of}
-use Rattle.host_io.specs.Disks.{Shape}
+use Rattle.host_block.specs.{DiskState, block_at, read_of}
+use Rattle.host_io.specs.{Shape}
 use Rattle.host_gpt.proofs.BlockLemmas.{joined_more, read_of-image, length-current_image}
 use Rattle.host_gpt.proofs.ReadLemmas.{one_read_more}
-use Rattle.host_gpt.specs.Image.{current_image}
+use Rattle.host_gpt.specs.{current_image}
 use Rattle.host_gpt.proofs.found.read_blocks.Goals as goal
 
 pub overflow_add-first : goal.overflow_add-first

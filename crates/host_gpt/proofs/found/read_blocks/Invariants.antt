@@ -1,7 +1,7 @@
 use Rattle.std.proofs.Common.{◌≡◌, ◌*◌, IsTrue, take, drop, vec_len}
 use Rattle.std.specs.List.{flat_map}
-use Rattle.host_gpt.specs.Image.{current_image}
-use Rattle.host_io.specs.Disks.{OnlyReads}
+use Rattle.host_gpt.specs.{current_image}
+use Rattle.host_io.specs.{OnlyReads}
 use Rattle.host_gpt.proofs.found.read_blocks.Given as goal
 
 abbrev pub invariant-loop-k : goal.invariant-loop-k

@@ -1,8 +1,8 @@
 use Rattle.std.proofs.Common.{◌≡◌, ◌<◌, length, ◌∙◌, arith}
-use Rattle.host_block.specs.Disk.{block_at}
+use Rattle.host_block.specs.{block_at}
 use Rattle.host_gpt.proofs.BlockLemmas.{read_of-image}
 use Rattle.host_gpt.proofs.FoundLemmas.{header_parsed}
-use Rattle.host_gpt.specs.Image.{current_image}
+use Rattle.host_gpt.specs.{current_image}
 use Rattle.host_gpt.proofs.found.read_header.Goals as goal
 
 pub returns-clause-header : goal.returns-clause-header

@@ -1,5 +1,5 @@
 use Rattle.std.proofs.Common.{◌≡◌, ◌++◌}
-use Rattle.host_gpt.specs.Sample.{filled}
+use Rattle.host_gpt.specs.{filled}
 use Rattle.host_gpt.proofs.sample.put_filled.Given as goal
 
 abbrev pub invariant-loop : goal.invariant-loop

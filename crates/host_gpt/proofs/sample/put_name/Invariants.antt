@@ -1,5 +1,5 @@
 use Rattle.std.proofs.Common.{◌≡◌, ◌++◌, take}
-use Rattle.host_gpt.specs.Sample.{wide}
+use Rattle.host_gpt.specs.{wide}
 use Rattle.host_gpt.proofs.sample.put_name.Given as goal
 
 abbrev pub invariant-loop-letter : goal.invariant-loop-letter

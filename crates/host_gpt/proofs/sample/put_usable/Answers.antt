@@ -1,6 +1,6 @@
 use Rattle.std.proofs.Common.{ℕ, List, ◌++◌, ap, ◌∙◌}
 use Rattle.host_gpt.proofs.SampleLemmas.{usable_more}
-use Rattle.host_gpt.specs.Sample.{filled, usable_blocks}
+use Rattle.host_gpt.specs.{filled, usable_blocks}
 use Rattle.host_gpt.proofs.sample.put_usable.Goals as goal
 
 pub loop-i-preserved : goal.loop-i-preserved

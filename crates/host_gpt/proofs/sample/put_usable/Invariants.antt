@@ -1,5 +1,5 @@
 use Rattle.std.proofs.Common.{◌≡◌, ◌++◌}
-use Rattle.host_gpt.specs.Sample.{usable_blocks}
+use Rattle.host_gpt.specs.{usable_blocks}
 use Rattle.host_gpt.proofs.sample.put_usable.Given as goal
 
 abbrev pub invariant-loop-i : goal.invariant-loop-i

@@ -1,9 +1,7 @@
 use Rattle.std.proofs.Common.{◌∷◌, [], sym, subst}
-use Rattle.host_block.specs.declared.op.Op.{Op}
-use Rattle.host_block.specs.declared.op.Op.TheVariants.{Trim}
-use Rattle.host_turn.specs.Seats.{seen_by}
-use Rattle.host_hand.specs.Errands.{ask_at}
-use Rattle.host_hand.specs.Runs.{HasRun}
+use Rattle.host_block.specs.{Op, Trim}
+use Rattle.host_turn.specs.{seen_by}
+use Rattle.host_hand.specs.{ask_at, HasRun}
 use Rattle.host_hand.proofs.BlockTurns.{on_block, trimmed}
 use Rattle.host_hand.proofs.block.carry_block.Goals as goal
 

@@ -1,5 +1,5 @@
-use Rattle.std.proofs.Common.{length, sym, ◌∙◌, arith}
-use Rattle.host_turn.specs.Seats.{seen_by}
+use Rattle.std.proofs.Common.{sym, ◌∙◌, arith}
+use Rattle.host_turn.specs.{seen_by}
 use Rattle.host_hand.proofs.BlockAfter.{run_none}
 use Rattle.host_hand.proofs.BlockSeats.{blocks_more, blocks_stopped, same_refl, same_trans}
 use Rattle.host_hand.proofs.block.carry_blocks.Goals as goal

@@ -1,8 +1,6 @@
 use Rattle.std.proofs.Common.{Ok}
-use Rattle.host_turn.specs.Seats.{IsOutside, IsSameSeat, seen_by}
-use Rattle.host_hand.specs.Blocks.{HoldsFor}
-use Rattle.host_hand.specs.Errands.{asks_upto}
-use Rattle.host_hand.specs.Runs.{HasRun}
+use Rattle.host_turn.specs.{IsOutside, IsSameSeat, seen_by}
+use Rattle.host_hand.specs.{HoldsFor, asks_upto, HasRun}
 use Rattle.host_hand.proofs.block.carry_blocks.Given as goal
 
 abbrev pub invariant-loop-k : goal.invariant-loop-k

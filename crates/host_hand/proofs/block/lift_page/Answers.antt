@@ -1,7 +1,6 @@
 use Rattle.std.proofs.Common.{sym, ap, ◌∙◌}
-use Rattle.host_memory.specs.Held.{is_block_of}
-use Rattle.host_memory.specs.State.{history}
-use Rattle.host_turn.specs.Seats.{number, seen_by}
+use Rattle.host_memory.specs.{is_block_of, history}
+use Rattle.host_turn.specs.{number, seen_by}
 use Rattle.host_hand.proofs.BlockTurns.{lifted_grown, lifted_held, unlifted_grown}
 use Rattle.host_hand.proofs.HoldPins.{entered_as, held_still, page_fits, pinned_now}
 use Rattle.host_hand.proofs.block.lift_page.Goals as goal

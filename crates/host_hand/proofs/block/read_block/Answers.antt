@@ -1,9 +1,8 @@
 use Rattle.std.proofs.Common.{◌∷◌, [], sym, ap, ◌∙◌}
-use Rattle.host_block.specs.declared.op.Op.TheVariants.{Read}
-use Rattle.host_memory.specs.Held.{is_block_of}
-use Rattle.host_memory.specs.State.{history}
-use Rattle.host_turn.specs.Seats.{number, seen_by}
-use Rattle.host_hand.specs.Errands.{ask_at}
+use Rattle.host_block.specs.{Read}
+use Rattle.host_memory.specs.{is_block_of, history}
+use Rattle.host_turn.specs.{number, seen_by}
+use Rattle.host_hand.specs.{ask_at}
 use Rattle.host_hand.proofs.BlockTurns.{left_turn, run_held}
 use Rattle.host_hand.proofs.HoldPins.{entered_as, held_still, page_fits, pinned_now}
 use Rattle.host_hand.proofs.block.read_block.Goals as goal

@@ -1,6 +1,6 @@
-use Rattle.host_block.specs.declared.op.Op.TheVariants.{Write}
-use Rattle.host_turn.specs.Seats.{seen_by}
-use Rattle.host_hand.specs.Errands.{ask_at}
+use Rattle.host_block.specs.{Write}
+use Rattle.host_turn.specs.{seen_by}
+use Rattle.host_hand.specs.{ask_at}
 use Rattle.host_hand.proofs.BlockTurns.{on_block, refused_before, written_before}
 use Rattle.host_hand.proofs.block.write_block.Goals as goal
 
@@ -13,5 +13,5 @@ pub returns-clause-run : goal.returns-clause-run
 returns-clause-run g c =
     let e = c.args.errand.now in
     let r = c.step_at in
-    written_before e c.args.k r.result (seen_by c.args.device_seat.now) (seen_by r.new.seat) r.ensures.front c.in-Ok.piece (seen_by c.args.memory_seat.now) (seen_by c.lift_page.new.seat) c.in-Ok.ensures.lifted.1
+    written_before e c.args.k r.result (seen_by c.args.device_seat.now) (seen_by r.new.seat) r.ensures.front c.in-Ok.piece (seen_by c.args.memory_seat.now) (seen_by c.lift_page.new.seat) c.requires.block.1 c.in-Ok.ensures.lifted.1
     (on_block e c.args.k c.block.result Write c.in-Ok.piece r.result.answer r.result.front (seen_by c.args.device_seat.now) (seen_by r.new.seat) c.block.ensures r.ensures.step)

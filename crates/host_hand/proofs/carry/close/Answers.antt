@@ -1,5 +1,5 @@
-use Rattle.host_frames.specs.Seats.{pool_id}
-use Rattle.host_turn.specs.Seats.{seen_by}
+use Rattle.host_frames.specs.{pool_id}
+use Rattle.host_turn.specs.{seen_by}
 use Rattle.host_hand.proofs.CarryEnds.{closed_carried}
 use Rattle.host_hand.proofs.carry.close.Goals as goal
 

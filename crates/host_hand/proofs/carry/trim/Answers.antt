@@ -1,9 +1,8 @@
 use Rattle.std.proofs.Common.{sym, subst}
-use Rattle.host_frames.specs.Seats.{pool_id}
-use Rattle.host_turn.specs.Seats.{seen_by}
-use Rattle.host_hand.specs.declared.carry.Carried.{Carried}
+use Rattle.host_frames.specs.{pool_id}
+use Rattle.host_turn.specs.{seen_by}
+use Rattle.host_hand.specs.{Carried, HasCarried}
 use Rattle.host_hand.specs.declared.work.Work.TheVariants as work
-use Rattle.host_hand.specs.Works.{HasCarried}
 use Rattle.host_hand.proofs.CarryEnds.{trim_carried}
 use Rattle.host_hand.proofs.carry.trim.Goals as goal
 

@@ -1,9 +1,8 @@
 -- The close that was found has landed.
 use Rattle.std.proofs.Common.{List, sym, subst}
-use Rattle.host_intake.specs.declared.entry.IntakeEntry.{IntakeEntry}
-use Rattle.host_intake.specs.Entries.{maker_of}
-use Rattle.host_turn.specs.History.{Continues}
-use Rattle.host_turn.specs.Seats.{number, seen_by}
+use Rattle.host_intake.specs.{IntakeEntry, maker_of}
+use Rattle.host_log.specs.{Continues}
+use Rattle.host_turn.specs.{number, seen_by}
 use Rattle.host_session.proofs.Shutting.{when_true}
 use Rattle.host_hand.proofs.Landed.{close_landed}
 use Rattle.host_hand.proofs.close.end_close.Goals as goal

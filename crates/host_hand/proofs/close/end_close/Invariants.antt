@@ -1,8 +1,8 @@
 use Rattle.std.proofs.Common.{◌≡◌}
-use Rattle.host_intake.specs.Entries.{maker_of}
-use Rattle.host_turn.specs.History.{Continues}
-use Rattle.host_turn.specs.Seats.{IsSameSeat, seen_by}
-use Rattle.host_session.specs.Plan.{IsSeatIn, IsShared, SessionPlan, intake_plan}
+use Rattle.host_intake.specs.{maker_of}
+use Rattle.host_log.specs.{Continues}
+use Rattle.host_turn.specs.{IsSameSeat, seen_by}
+use Rattle.host_session.specs.{IsSeatIn, IsShared, SessionPlan, intake_plan}
 use Rattle.host_hand.proofs.close.end_close.Given as goal
 
 abbrev pub invariant-loop : goal.invariant-loop

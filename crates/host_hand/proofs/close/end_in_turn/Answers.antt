@@ -1,16 +1,11 @@
 -- The close that waited is settled, and its answer is the one owed.
 use Rattle.std.proofs.Common.{◌≡◌, sym, ap, subst, ◌∙◌}
-use Rattle.host_group.specs.Seats.{cells_id}
-use Rattle.host_intake.specs.declared.entry.RecordEnd.{RecordEnd}
-use Rattle.host_intake.specs.Answers.{answer_owed}
-use Rattle.host_intake.specs.Entries.{landings, requests_of, takings}
-use Rattle.host_intake.specs.Rights.{AreSettled}
-use Rattle.host_intake.specs.State.{IntakeState}
-use Rattle.host_intake.specs.Waits.{IsOfTaking}
-use Rattle.host_model.specs.Log.{request_at}
-use Rattle.host_record.specs.Request.{request_of}
+use Rattle.host_group.specs.{cells_id}
+use Rattle.host_intake.specs.{RecordEnd, answer_owed, landings, requests_of, takings, AreSettled, IntakeState, IsOfTaking}
+use Rattle.host_model.specs.{request_at}
+use Rattle.host_record.specs.{request_of}
 use Rattle.host_record.specs.declared.status.Status.TheVariants as status
-use Rattle.host_hand.specs.Ends.{WasUsed}
+use Rattle.host_hand.specs.{WasUsed}
 use Rattle.host_hand.proofs.Landed.{waiting_owed, waiting_settled}
 use Rattle.host_hand.proofs.close.end_in_turn.Goals as goal
 

@@ -1,16 +1,9 @@
 -- The record is in flight in the state that was entered, and its end is the one that its right was used with.
 use Rattle.std.proofs.Common.{◌≡◌, ℕ, List, refl, sym, ap, subst, ◌∙◌, inl}
-use Rattle.host_group.specs.Seats.{cells_id}
-use Rattle.host_intake.specs.declared.entry.IntakeEntry.{IntakeEntry}
-use Rattle.host_intake.specs.declared.entry.IntakeEntry.TheVariants.{Landed}
-use Rattle.host_intake.specs.Answers.{answer_owed}
-use Rattle.host_intake.specs.Entries.{landings, maker_of, request_in, requests_of, takings}
-use Rattle.host_intake.specs.Ledgers.{is_shut}
-use Rattle.host_intake.specs.Rights.{AreSettled}
-use Rattle.host_intake.specs.State.{IntakeState}
-use Rattle.host_intake.specs.Told.{phase_in}
-use Rattle.host_turn.specs.History.{Continues}
-use Rattle.host_turn.specs.Seats.{number, seen_by}
+use Rattle.host_group.specs.{cells_id}
+use Rattle.host_intake.specs.{IntakeEntry, Landed, answer_owed, landings, maker_of, request_in, requests_of, takings, is_shut, AreSettled, IntakeState, phase_in}
+use Rattle.host_log.specs.{Continues}
+use Rattle.host_turn.specs.{number, seen_by}
 use Rattle.host_hand.proofs.Jobbed.{phase_same}
 use Rattle.host_hand.proofs.Landed.{flying_open, in_flight_later, is_lander_taken, none_waits, owed_there, settled_longer}
 use Rattle.host_hand.proofs.end.land.Goals as goal

@@ -1,7 +1,7 @@
 use Rattle.std.proofs.Common.{length, sym, ap, ◌∙◌}
-use Rattle.host_frames.specs.Seats.{pool_id}
-use Rattle.host_memory.specs.State.{size_of}
-use Rattle.host_turn.specs.Seats.{number, seen_by}
+use Rattle.host_frames.specs.{pool_id}
+use Rattle.host_memory.specs.{block_size_of}
+use Rattle.host_turn.specs.{number, seen_by}
 use Rattle.host_hand.proofs.HoldGone.{done_entries, let_go_of, pages_here}
 use Rattle.host_hand.proofs.HoldPins.{entered_as, held_still, pinned_now}
 use Rattle.host_hand.proofs.hold.let_go.Goals as goal
@@ -18,6 +18,6 @@ returns-clause-gone g c =
     let later = entered_as c.args.errand.now.hand (number c.args.seat.now) (seen_by c.args.seat.now) (seen_by c.enter_past-memory.new.seat) c.enter_past-memory.result.entries c.requires.seat.number_is (sym e.story) e.later in
     let m = c.enter_past-memory.result in
     let d = c.done-freed.ensures in
-    let_go_of c.args.errand.now (pool_id c.args.pool.now) (size_of m) c.length-front.result (seen_by c.args.seat.now) m.entries (seen_by c.leave.new.seat) later e.past (c.length-front.ensures ∙ ap (λ l. length l) (sym c.leave.ensures.story))
+    let_go_of c.args.errand.now (pool_id c.args.pool.now) (block_size_of m) c.length-front.result (seen_by c.args.seat.now) m.entries (seen_by c.leave.new.seat) later e.past (c.length-front.ensures ∙ ap (λ l. length l) (sym c.leave.ensures.story))
     c.done-freed.result d.answer (pages_here (pool_id c.args.pool.now) m c.args.errand.now.request.vmoid c.done-freed.result (c.requires.pool _ (sym e.seat.0.3 ∙ e.fixed_part)) d.pages)
     (c.leave.ensures.story ∙ done_entries c.args.errand.now.hand c.args.errand.now.index c.args.errand.now.request.vmoid c.done-freed.result m c.done-freed.new.self d.entries)

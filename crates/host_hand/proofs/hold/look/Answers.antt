@@ -1,7 +1,7 @@
 use Rattle.std.proofs.Common.{sym, ◌∙◌}
-use Rattle.host_model.specs.declared.memory.MemEntry.{MemEntry}
-use Rattle.host_turn.specs.Seats.{number, seen_by}
-use Rattle.host_hand.proofs.Growing.{grown_nothing}
+use Rattle.host_model.specs.{MemEntry}
+use Rattle.host_turn.specs.{number, seen_by}
+use Rattle.host_log.proofs.Growing.{grown_nothing}
 use Rattle.host_hand.proofs.HoldPins.{entered_as}
 use Rattle.host_hand.proofs.hold.look.Goals as goal
 

@@ -1,6 +1,6 @@
 use Rattle.std.proofs.Common.{refl, sym, ◌∙◌}
-use Rattle.host_device.specs.Entries.{entry_of}
-use Rattle.host_turn.specs.Seats.{number, seen_by}
+use Rattle.host_device.specs.{step_made}
+use Rattle.host_turn.specs.{number, seen_by}
 use Rattle.host_hand.proofs.StepMade.{step_grown}
 use Rattle.host_hand.proofs.step.step_at.Goals as goal
 
@@ -14,5 +14,5 @@ pub returns-clause-step : goal.returns-clause-step
 returns-clause-step g c =
     let e = c.enter_past-device.ensures in
     step_grown c.args.errand.now.hand (number c.args.seat.now) c.args.errand.now.device_front c.length-front.result (seen_by c.args.seat.now) (seen_by c.enter_past-device.new.seat) c.enter_past-device.result.steps.items c.make_step-answer.new.device.steps.items (seen_by c.leave.new.seat) c.make_step-answer.result
-    (entry_of c.args.errand.now.hand c.args.errand.now.session c.args.errand.now.index c.args.k c.args.op c.args.block c.args.bytes)
+    (step_made c.args.errand.now.hand c.args.errand.now.session c.args.errand.now.index c.args.k c.args.op c.args.block c.args.bytes)
     c.requires.seat.1 e.later e.story c.make_step-answer.ensures.entry c.leave.ensures.story (λ b. refl) e.past c.length-front.ensures

@@ -1,16 +1,12 @@
 use Rattle.std.proofs.Common.{◌≡◌, ℕ, ◌<◌, ◌++◌, true, List, Some, length, sym, ap, subst, ◌∙◌, arith}
 use Rattle.std.specs.List.{list_all}
 use Rattle.std.specs.Option.{is_some}
-use Rattle.host_model.specs.declared.memory.MemEntry.{MemEntry}
-use Rattle.host_memory.specs.Held.{standing_in}
-use Rattle.host_memory.specs.Numbers.{is_numbered}
-use Rattle.host_memory.specs.State.{MemoryState, admissions_of, client_of, history}
-use Rattle.host_record.specs.Command.{opcode}
-use Rattle.host_turn.specs.History.{Adds, Continues}
-use Rattle.host_turn.specs.Seats.{number, seen_by, fixed_part}
-use Rattle.host_intake.specs.Entries.{takings}
-use Rattle.host_intake.specs.Takings.{made_for, made_under, under}
-use Rattle.host_intake.specs.Touching.{IsReady}
+use Rattle.host_model.specs.{MemEntry}
+use Rattle.host_memory.specs.{standing_in, is_numbered, MemoryState, admissions_of, client_of, history}
+use Rattle.host_record.specs.{opcode}
+use Rattle.host_log.specs.{Adds, Continues}
+use Rattle.host_turn.specs.{number, seen_by, fixed_part}
+use Rattle.host_intake.specs.{takings, made_for, made_under, under, IsPinReady}
 use Rattle.host_intake.proofs.Accepting.{accepted_attached}
 use Rattle.host_intake.proofs.Judging.{hand_of, taken_longer}
 use Rattle.host_intake.proofs.NextTaken.{plan_of_seat, taken_next, pages_next}
@@ -30,7 +26,7 @@ touch-touched-requires g c accepted names =
     let stands = subst (λ (n : ℕ). is_some (standing_in r.vmoid n (history memory)) ≡ true) index
     (accepted_attached c.args.part.now (standing_in r.vmoid c.taken-index.result (history memory)) r (sym c.verdict_on-verdict.ensures ∙ accepted) names) in
     let few : length ts < memory.plan.limits.records = (let a = c.requires.room in let b = admits.1 in omega arith) in
-    subst (λ (n : ℕ). IsReady (history memory) memory.plan.limits.records n r.vmoid) (sym index)
+    subst (λ (n : ℕ). IsPinReady (history memory) memory.plan.limits.records n r.vmoid) (sym index)
     (ready c.args.part.now (client_of memory) (number c.args.seat.now) memory.entries ts k numbered memory.plan.limits.records r.vmoid few stands)
 
 pub leave-requires-clause-story : goal.leave-requires-clause-story

@@ -1,7 +1,7 @@
 use Rattle.std.proofs.Common.{rules, tests}
 use Rattle.std.proofs.lemmas.Iterator.{YieldsList-from_slice}
 use Rattle.std.proofs.lemmas.Iterator.Search.{position_from_yields_List}
-use Rattle.host_intake.specs.Waits.{is_waiting_at}
+use Rattle.host_intake.specs.{is_waiting_at}
 use Rattle.host_intake.proofs.land.place_waiting.Goals as goal
 
 pub returns : goal.returns

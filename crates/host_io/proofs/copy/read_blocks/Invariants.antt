@@ -1,6 +1,5 @@
 use Rattle.std.proofs.Common.{◌≡◌, ◌*◌, IsTrue, length}
-use Rattle.host_io.specs.Copies.{bytes_of}
-use Rattle.host_io.specs.Disks.{OnlyReads}
+use Rattle.host_io.specs.{bytes_of, OnlyReads}
 use Rattle.host_io.proofs.copy.read_blocks.Given as goal
 
 abbrev pub invariant-loop-b : goal.invariant-loop-b

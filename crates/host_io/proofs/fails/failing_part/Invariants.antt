@@ -1,5 +1,5 @@
 use Rattle.std.proofs.Common.{◌≡◌, drop}
-use Rattle.host_io.specs.Fails.{part_listed}
+use Rattle.host_io.specs.{part_listed}
 use Rattle.host_io.proofs.fails.failing_part.Given as goal
 
 abbrev pub invariant-loop-fail : goal.invariant-loop-fail

@@ -1,6 +1,6 @@
 use Rattle.std.proofs.Common.{◌+◌, drop, sym, ◌∙◌}
-use Rattle.host_block.specs.Disk.{picked}
-use Rattle.host_io.specs.Waiting.{pairs_of}
+use Rattle.host_block.specs.{picked}
+use Rattle.host_io.specs.{pairs_of}
 use Rattle.host_io.proofs.FlatLemmas.{picked_yes, picked_no, picked_done}
 use Rattle.host_io.proofs.flat.pick_of.Goals as goal
 use Rattle.host_io.proofs.flat.pick_of.Goals.{then-left-gt0+then-write-b, else-left-gt0, else-left-gt0-via-then-left-gt0+else-write-b, else-left-gt0-via-else-left-gt0}

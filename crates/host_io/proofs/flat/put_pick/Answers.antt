@@ -1,9 +1,7 @@
 use Rattle.std.proofs.Common.{ℕ, ◌*◌, List, length, drop, ◌∙◌, ap, arith}
-use Rattle.host_block.specs.Disk.{picked}
+use Rattle.host_block.specs.{picked}
 use Rattle.host_block.proofs.DiskLemmas.{length-picked}
-use Rattle.host_io.specs.Flat.{put_at}
-use Rattle.host_io.specs.FlatShape.{cut_of_size}
-use Rattle.host_io.specs.Waiting.{pairs_of}
+use Rattle.host_io.specs.{put_at, cut_of_size, pairs_of}
 use Rattle.host_io.proofs.FlatLemmas.{flat_state, block_read, drop-put_at}
 use Rattle.host_io.proofs.flat.put_pick.Goals as goal
 

@@ -1,6 +1,6 @@
 use Rattle.std.proofs.Common.{[], get_or, refl, arith}
-use Rattle.host_gpt.specs.declared.entry.Entry.{Entry}
-use Rattle.host_list.specs.Text.{entry_line}
+use Rattle.host_gpt.specs.{Entry}
+use Rattle.host_list.specs.{entry_line}
 use Rattle.host_text.proofs.Putting.{adds_at, puts_exit, stops_at}
 use Rattle.host_list.proofs.entry.write_entries.Goals as goal
 

@@ -1,7 +1,7 @@
 use Rattle.std.proofs.Common.{take, flat_map}
-use Rattle.host_list.specs.Text.{entry_line}
-use Rattle.host_text.specs.Writing.{Adds}
+use Rattle.host_list.specs.{entry_line}
+use Rattle.host_text.specs.{AppendsText}
 use Rattle.host_list.proofs.entry.write_entries.Given as goal
 
 abbrev pub invariant-loop-entry : goal.invariant-loop-entry
-invariant-loop-entry g l = Adds g.K.Sink.tells g.K.Sink.faults g.K.Sink.appended l.initial.out l.initial.held l.out l.held (flat_map (entry_line l.parts) (take l.entry-index l.entries))
+invariant-loop-entry g l = AppendsText g.K.Sink.tells g.K.Sink.faults g.K.Sink.appended l.initial.out l.initial.held l.out l.held (flat_map (entry_line l.parts) (take l.entry-index l.entries))

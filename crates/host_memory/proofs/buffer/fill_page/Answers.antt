@@ -1,7 +1,7 @@
 use Rattle.std.proofs.Common.{◌∙◌, [], length, set, replicate, sym, ap}
 use Rattle.std.proofs.lemmas.List.{length-replicate}
 use Rattle.std.proofs.lemmas.Option.{get_or_from_slice_get}
-use Rattle.host_frames.specs.Seats.{contents}
+use Rattle.host_frames.specs.{contents}
 use Rattle.host_frames.proofs.LentPages.{contents_written}
 use Rattle.host_memory.proofs.buffer.fill_page.Goals as goal
 

@@ -1,6 +1,6 @@
 use Rattle.std.proofs.Common.{◌<◌, ◌≤◌, ◌∙◌, [], length, get_or, replicate, refl, ap, arith}
 use Rattle.std.proofs.lemmas.List.{length-set}
-use Rattle.host_frames.specs.Seats.{contents}
+use Rattle.host_frames.specs.{contents}
 use Rattle.host_memory.proofs.Filling.{filled_more, filled_none}
 use Rattle.host_memory.proofs.buffer.fill_pages.Goals as goal
 

@@ -1,5 +1,5 @@
 use Rattle.std.proofs.Common.{◌≡◌, ℕ, [], length, get_or}
-use Rattle.host_frames.specs.Seats.{contents, pages_pool}
+use Rattle.host_frames.specs.{contents, pages_pool}
 use Rattle.host_memory.proofs.Filling.{upto}
 use Rattle.host_memory.proofs.buffer.fill_pages.Given as goal
 

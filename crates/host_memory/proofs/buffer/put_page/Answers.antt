@@ -1,5 +1,5 @@
 use Rattle.std.proofs.Common.{◌∙◌, length, set, ap}
-use Rattle.host_frames.specs.Seats.{contents}
+use Rattle.host_frames.specs.{contents}
 use Rattle.host_frames.proofs.LentPages.{contents_written}
 use Rattle.host_memory.proofs.buffer.put_page.Goals as goal
 

@@ -1,6 +1,6 @@
 use Rattle.std.proofs.lemmas.List.Sorted.{All-permutation}
-use Rattle.script_model.specs.Plans.{plans_of}
-use Rattle.host_play.specs.Actors.{HasPlayedPart, IsCast}
+use Rattle.script_model.specs.{plans_of}
+use Rattle.host_play.specs.{HasPlayedPart, IsCast}
 use Rattle.host_play.proofs.Reversed.{turned_back}
 use Rattle.host_play.proofs.acting.act_all.Goals as goal
 

@@ -4,10 +4,9 @@ use denote.Param.Send.{sendable}
 use Rattle.std.proofs.Crossing.{crosses}
 use Rattle.host_worker.proofs.Crossing.{server_sync}
 use Rattle.host_io.specs.declared.disk.Disk as disk
-use Rattle.host_worker.specs.declared.server.Server.{Server}
-use Rattle.script_model.specs.Plans.{SessionPlan, plans_of}
-use Rattle.host_play.specs.Actors.{HasPlayedPart}
-use Rattle.host_play.specs.declared.actor.Actor.{Actor}
+use Rattle.host_worker.specs.{Server}
+use Rattle.script_model.specs.{PlannedSession, plans_of}
+use Rattle.host_play.specs.{HasPlayedPart, Actor}
 use Rattle.host_play.proofs.Crossing.{actor_send, script_sync}
 use Rattle.host_play.proofs.Reversed.{zipped}
 use Rattle.host_play.proofs.acting.act_each.Goals as goal
@@ -22,7 +21,7 @@ for_each_mut-requires-sync-F g c κs within =
     let y = c.type_bounds.sync-G in
     search (sendable, crosses, server_sync, script_sync) depth 20
 
-module _ (D : Type 0) (g : disk.Ghosts D) (server : Server D g) (plans : List SessionPlan) where
+module _ (D : Type 0) (g : disk.Ghosts D) (server : Server D g) (plans : List PlannedSession) where
   -- what a call left at a place, of what was there
   part_at : (x y argument after : Actor D g) → HasPlayedPart server plans argument after → argument ≡ x → after ≡ y → HasPlayedPart server plans x y
   part_at x y argument after part was left = subst (λ (a : Actor D g). HasPlayedPart server plans a y) was (subst (λ (b : Actor D g). HasPlayedPart server plans argument b) left part)

@@ -1,8 +1,8 @@
 use Rattle.std.proofs.Common.{◌-◌, ℕ, All, sym, ap, arith}
 use Rattle.host_worker.proofs.Lists.{at_place}
 use Rattle.host_worker.proofs.Shared.{number_within}
-use Rattle.script_model.specs.declared.script.SessionScript.{SessionScript}
-use Rattle.host_play.specs.Calls.{CanPlay}
+use Rattle.script_model.specs.{SessionScript}
+use Rattle.host_play.specs.{CanPlay}
 use Rattle.host_play.proofs.Finding.{its_pieces, its_room, played_so, stands_there}
 use Rattle.host_play.proofs.acting.play.Goals as goal
 

@@ -1,5 +1,5 @@
 use Rattle.std.proofs.Common.{◌+◌, ◌++◌, ◌≤◌, length, vec_capacity, vec_len}
-use Rattle.host_play.specs.Casts.{clients_in, hands_in}
+use Rattle.host_play.specs.{clients_in, hands_in}
 use Rattle.host_play.proofs.CastSoFar.{AreBackSoFar}
 use Rattle.host_play.proofs.casting.dismiss_all.Given as goal
 

@@ -1,11 +1,9 @@
 use Rattle.std.proofs.Common.{◌≡◌, ℕ, ◌+◌, ◌<◌, List, length, get_or, drop, refl, sym, subst, ◌∙◌, arith}
 use Rattle.std.proofs.lemmas.List.{get_or_default}
-use Rattle.host_session.specs.Plan.{SessionPlan}
+use Rattle.host_session.specs.{SessionPlan}
 use Rattle.host_worker.proofs.Shared.{client_still}
-use Rattle.script_model.specs.declared.script.ScriptLine.{ScriptLine}
-use Rattle.script_model.specs.declared.script.ScriptLine.TheVariants.{Attach}
-use Rattle.host_play.specs.Opened.{HasRoomFor}
-use Rattle.host_play.specs.Pieces.{ArePieces}
+use Rattle.script_model.specs.{ScriptLine, Attach}
+use Rattle.host_play.specs.{HasRoomForLines, ArePieces}
 use Rattle.host_play.proofs.PlayedLines.{can_here, helped_none, helped_then, may_next, piece_next, pieces_next, played_all, played_next, starts}
 use Rattle.host_play.proofs.Rooms.{may_end}
 use Rattle.host_play.proofs.client.play_lines.Goals as goal
@@ -37,7 +35,7 @@ play_line-requires-clause-may g c =
     let lines = c.args.lines.now in
     let i = c.loop-line.line-index in
     let so = c.loop-line.invariant in
-    let room : HasRoomFor lines c.loop-line.client.end.plan.spec = subst (λ (p : SessionPlan). HasRoomFor lines p.spec) (sym so.plan) c.requires.room in
+    let room : HasRoomForLines lines c.loop-line.client.end.plan.spec = subst (λ (p : SessionPlan). HasRoomForLines lines p.spec) (sym so.plan) c.requires.room in
     may_next lines i (get_or lines i fallback) c.loop-line-test.true (here lines i c.loop-line-test.true) c.loop-line.client.end c.vouch.ensures so.played room so.open_still
 
 pub play_line-requires-clause-playable : goal.play_line-requires-clause-playable
@@ -76,7 +74,7 @@ returns-clause-may g c =
     let lines = c.args.lines.now in
     let so = c.loop-line.invariant in
     let end = c.loop-line.client.end in
-    let room : HasRoomFor lines end.plan.spec = subst (λ (p : SessionPlan). HasRoomFor lines p.spec) (sym so.plan) c.requires.room in
+    let room : HasRoomForLines lines end.plan.spec = subst (λ (p : SessionPlan). HasRoomForLines lines p.spec) (sym so.plan) c.requires.room in
     may_end end lines c.vouch-2.ensures (played_all lines end c.loop-line.line-index (omega (arith, c.loop-line-test.false, c.loop-line.auto.line-index-end)) so.played) room so.open_still
 
 pub returns-clause-played : goal.returns-clause-played

@@ -1,7 +1,5 @@
 use Rattle.std.proofs.Common.{◌≡◌, None, take, drop}
-use Rattle.host_play.specs.Calls.{HasHelped}
-use Rattle.host_play.specs.Logs.{HasPlayed}
-use Rattle.host_play.specs.Pieces.{ArePieces}
+use Rattle.host_play.specs.{HasHelped, HasPlayed, ArePieces}
 use Rattle.host_play.proofs.client.play_lines.Given as goal
 
 abbrev pub invariant-loop-line : goal.invariant-loop-line

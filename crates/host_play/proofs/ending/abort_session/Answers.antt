@@ -1,5 +1,5 @@
 use Rattle.std.proofs.Common.{[], ◌∷◌}
-use Rattle.host_model.specs.declared.event.Event.TheVariants.{Aborted}
+use Rattle.host_model.specs.{Aborted}
 use Rattle.host_play.proofs.Accounts.{square_ended}
 use Rattle.host_play.proofs.LineSteps.{abort_closed}
 use Rattle.host_play.proofs.Quiet.{silent_abort}

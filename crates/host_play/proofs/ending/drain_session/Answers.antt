@@ -1,6 +1,6 @@
 use Rattle.std.proofs.Common.{ℕ, List, [], ◌∷◌, ◌++◌, ◌∙◌, append_assoc}
-use Rattle.host_model.specs.declared.event.Event.TheVariants.{Drained}
-use Rattle.host_worker.specs.Waits.{received_events}
+use Rattle.host_model.specs.{Drained}
+use Rattle.host_worker.specs.{received_events}
 use Rattle.host_play.proofs.Accounts.{square_ended}
 use Rattle.host_play.proofs.LineSteps.{drain_closed}
 use Rattle.host_play.proofs.Quiet.{silent_drain}

@@ -1,8 +1,7 @@
 use Rattle.std.proofs.Common.{◌≡◌, ℕ, refl, sym, ap, subst, ◌∙◌}
-use Rattle.host_frames.specs.Seats.{frame_count}
-use Rattle.host_session.specs.Calls.{IsAttachAnswer}
-use Rattle.host_worker.specs.Accounts.{released_of}
-use Rattle.host_worker.specs.Hands.{pool_seat_of}
+use Rattle.host_frames.specs.{frame_count}
+use Rattle.host_session.specs.{IsAttachAnswer}
+use Rattle.host_worker.specs.{released_of, pool_seat_of}
 use Rattle.host_play.proofs.Accounts.{released_none, square_attached}
 use Rattle.host_worker.proofs.Visited.{with_seat_still}
 use Rattle.host_play.proofs.Belonging.{its_shared, pools, within}

@@ -1,5 +1,5 @@
 use Rattle.std.proofs.Common.{◌≡◌, refl, sym, ◌∙◌}
-use Rattle.host_worker.specs.Accounts.{released_of}
+use Rattle.host_worker.specs.{released_of}
 use Rattle.host_play.proofs.Accounts.{released_none}
 use Rattle.host_play.proofs.Belonging.{its_shared, within}
 use Rattle.host_play.proofs.LineSteps.{fill_done}

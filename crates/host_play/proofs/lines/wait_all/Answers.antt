@@ -1,5 +1,5 @@
 use Rattle.std.proofs.Common.{◌≤◌, ℕ, length, subst}
-use Rattle.host_model.specs.Log.{received}
+use Rattle.host_model.specs.{received}
 use Rattle.host_play.proofs.Accounts.{square_worked}
 use Rattle.host_play.proofs.LineSteps.{wait_all_done}
 use Rattle.host_play.proofs.Quiet.{received_before}

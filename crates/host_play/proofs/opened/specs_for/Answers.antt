@@ -1,9 +1,8 @@
 use Rattle.std.proofs.Common.{◌≡◌, ◌∷◌, [], ◌++◌, List, length, map, take, sym, ap, ◌∙◌, arith}
 use Rattle.std.proofs.lemmas.List.{length-map}
-use Rattle.host_session.specs.declared.spec.SessionSpec.{SessionSpec}
-use Rattle.script_model.specs.declared.script.SessionScript.{SessionScript}
-use Rattle.script_model.specs.Plans.{plan_of}
-use Rattle.host_play.specs.Opened.{specs_from}
+use Rattle.host_session.specs.{SessionSpec}
+use Rattle.script_model.specs.{SessionScript, plan_of}
+use Rattle.host_play.specs.{specs_from}
 use Rattle.host_play.proofs.Preparing.{next_spec, spec_count}
 use Rattle.host_play.proofs.opened.specs_for.Goals as goal
 

@@ -1,7 +1,7 @@
 use Rattle.std.proofs.Common.{◌≡◌, ◌≤◌, take, vec_capacity, length}
 use Rattle.std.specs.Prelude.{map}
-use Rattle.script_model.specs.Plans.{plan_of}
-use Rattle.host_play.specs.Opened.{specs_from}
+use Rattle.script_model.specs.{plan_of}
+use Rattle.host_play.specs.{specs_from}
 use Rattle.host_play.proofs.opened.specs_for.Given as goal
 
 abbrev pub invariant-loop-k : goal.invariant-loop-k

@@ -1,6 +1,6 @@
 use Rattle.std.proofs.Common.{◌∷◌, [], ◌++◌, List, sym, subst, ◌∙◌}
-use Rattle.script_model.specs.declared.script.ScriptLine.{ScriptLine}
-use Rattle.host_play.specs.Pieces.{ArePieces}
+use Rattle.script_model.specs.{ScriptLine}
+use Rattle.host_play.specs.{ArePieces}
 use Rattle.host_play.proofs.Preparing.{next_pieces, pushed}
 use Rattle.host_play.proofs.pieces.all_pieces.Goals as goal
 

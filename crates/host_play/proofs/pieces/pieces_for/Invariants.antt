@@ -1,5 +1,5 @@
 use Rattle.std.proofs.Common.{◌≡◌, List, ℕ, map, length, take}
-use Rattle.host_play.specs.Pieces.{piece_lengths}
+use Rattle.host_play.specs.{piece_lengths}
 use Rattle.host_play.proofs.pieces.pieces_for.Given as goal
 
 abbrev pub invariant-loop-line : goal.invariant-loop-line

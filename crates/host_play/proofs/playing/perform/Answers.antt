@@ -1,14 +1,10 @@
-use Rattle.std.proofs.Common.{List, sym, subst, arith}
-use Rattle.host_worker.specs.Accounts.{AreAccounted}
-use Rattle.host_worker.specs.Ends.{AreEnded, hand_end}
-use Rattle.host_worker.specs.Finishes.{AreClosed, AreHands}
-use Rattle.script_model.specs.Plans.{plans_of}
-use Rattle.host_play.specs.declared.actor.Actor.{Actor}
-use Rattle.host_play.specs.Casts.{clients_in, hands_in}
+use Rattle.std.proofs.Common.{List, sym, subst, arith, ◌≡◌, ◌≤◌, length, map, vec_capacity, []}
+use Rattle.host_worker.specs.{AreAccounted, AreEnded, hand_end, AreClosed, AreHands}
+use Rattle.script_model.specs.{plans_of}
+use Rattle.host_play.specs.{Actor, clients_in, hands_in}
 use Rattle.host_play.proofs.Leaving.{accounted, are_closed, are_hands}
 use Rattle.host_play.proofs.Performing.{all_count, client_count, performed, stage_played}
 use Rattle.host_play.proofs.playing.perform.Goals as goal
-use Rattle.std.proofs.Common.{◌≡◌, ◌≤◌, length, map, vec_capacity, []}
 
 pub leave_stage-requires-clause-hands : goal.leave_stage-requires-clause-hands
 leave_stage-requires-clause-hands g c =

@@ -1,10 +1,9 @@
 use Rattle.std.proofs.Common.{◌≡◌, ◌+◌, ℕ, length, map, sym, ap, subst, ◌∙◌, arith}
-use Rattle.host_report.specs.declared.session.SessionReport.{SessionReport}
-use Rattle.host_worker.specs.Shares.{specs_of}
-use Rattle.script_model.specs.Plans.{plans_of}
-use Rattle.script_played.specs.Played.{PlaysPlans}
-use Rattle.host_play.specs.Opened.{specs_from}
-use Rattle.host_play.specs.Plays.{IsReportOf}
+use Rattle.host_report.specs.{SessionReport}
+use Rattle.host_worker.specs.{specs_of}
+use Rattle.script_model.specs.{plans_of}
+use Rattle.script_played.specs.{PlaysPlans}
+use Rattle.host_play.specs.{specs_from, IsReportOf}
 use Rattle.host_play.proofs.Performing.{told}
 use Rattle.host_play.proofs.Saying.{is_playable}
 use Rattle.host_play.proofs.SetUp.{as_many, sessions_set}

@@ -1,12 +1,12 @@
 use Rattle.std.proofs.Common.{◌≡◌, ◌+◌, ◌^◌, ◌<◌, ◌≤◌, ℕ, Bool, true, List, length, sym, ap, subst, ◌∙◌, arith, rules}
 use Rattle.std.proofs.lemmas.List.{length-map}
 use Rattle.std.proofs.lemmas.Result.{MatchResult-weaker}
-use Rattle.host_device.specs.Seen.{shape_of, steps_of}
-use Rattle.host_io.specs.Disks.{Shape}
-use Rattle.host_session.specs.declared.spec.SessionSpec.{SessionSpec}
-use Rattle.host_worker.specs.Starts.{AreSpecs}
-use Rattle.script_model.specs.Plans.{plan_of, plans_of}
-use Rattle.host_play.specs.Opened.{specs_from}
+use Rattle.host_device.specs.{shape_of, steps_of}
+use Rattle.host_io.specs.{Shape}
+use Rattle.host_session.specs.{SessionSpec}
+use Rattle.host_worker.specs.{AreSpecs}
+use Rattle.script_model.specs.{plan_of, plans_of}
+use Rattle.host_play.specs.{specs_from}
 use Rattle.host_play.proofs.SetUp.{are_specs, is_set}
 use Rattle.host_play.proofs.stage.set_stage.Goals as goal
 

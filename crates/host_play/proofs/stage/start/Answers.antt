@@ -1,6 +1,6 @@
 use Rattle.std.proofs.Common.{List, subst}
-use Rattle.host_session.specs.declared.spec.SessionSpec.{SessionSpec}
-use Rattle.host_worker.specs.Starts.{IsStarted}
+use Rattle.host_session.specs.{SessionSpec}
+use Rattle.host_worker.specs.{IsStarted}
 use Rattle.host_play.proofs.Staging.{is_staged}
 use Rattle.host_play.proofs.stage.start.Goals as goal
 

@@ -1,6 +1,6 @@
 use Rattle.std.proofs.Common.{◌≡◌, List, length, sym, ap, ◌∙◌, arith}
-use Rattle.host_session.specs.declared.spec.SessionSpec.{SessionSpec}
-use Rattle.script_model.specs.Plans.{plans_of}
+use Rattle.host_session.specs.{SessionSpec}
+use Rattle.script_model.specs.{plans_of}
 use Rattle.host_play.proofs.Reporting.{specs_length}
 use Rattle.host_play.proofs.stage.take_props.Goals as goal
 

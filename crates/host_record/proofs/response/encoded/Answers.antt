@@ -1,6 +1,6 @@
 -- The bytes written are the response's, so they read as the response.
 use Rattle.std.proofs.Common.{rules, ap, ◌∙◌}
-use Rattle.host_record.specs.Response.{response_of}
+use Rattle.host_record.specs.{response_of}
 use Rattle.host_record.proofs.ResponseLemmas.{response_of_bytes}
 use Rattle.host_record.proofs.response.encoded.Goals as goal
 

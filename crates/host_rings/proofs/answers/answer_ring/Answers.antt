@@ -1,8 +1,7 @@
 use Rattle.std.proofs.Common.{◌≡◌, ℕ, ◌+◌, List, ◌∷◌, ◌++◌, [], length, ap, sym, ◌∙◌, subst, ⊎_elim, length-append, arith}
 use mathlib.Core.Option.{some}
 use lib.ListN.{get_elem?}
-use Rattle.host_rings.specs.RequestEnds.{RingId}
-use Rattle.host_rings.specs.AnswerEnds.{SlipSenderState, SlipTakerState, slip_sender_of, slip_taker_of, AreFresh}
+use Rattle.host_rings.specs.{RingId, SlipSenderState, SlipTakerState, slip_sender_of, slip_taker_of, AreFresh}
 use Rattle.host_rings.proofs.Lists.{at_snoc_or_end, at_each, each_at}
 use Rattle.host_rings.proofs.AnswerMoves.{begins}
 use Rattle.host_rings.proofs.answers.answer_ring.Goals as goal

@@ -1,5 +1,5 @@
 use Rattle.std.proofs.Common.{◌≡◌, ◌≤◌, [], length, vec_capacity}
-use Rattle.host_rings.specs.AnswerEnds.{slip_taker_of, AreFresh}
+use Rattle.host_rings.specs.{slip_taker_of, AreFresh}
 use Rattle.host_rings.proofs.answers.answer_ring.Given as goal
 
 abbrev pub invariant-loop : goal.invariant-loop

@@ -2,9 +2,7 @@ use Rattle.std.proofs.Common.{rules, ◌≡◌, ℕ, List, ◌∷◌, ◌++◌, 
 use Rattle.std.proofs.lemmas.List.{append-nil, length-map, nil_from_length}
 use mathlib.Core.Option.{some}
 use lib.ListN.{get_elem?}
-use Rattle.host_rings.specs.declared.answer_view.AnswerView.{AnswerView}
-use Rattle.host_rings.specs.Slips.{ComeFrom}
-use Rattle.host_rings.specs.AnswerEnds.{SlipSenderState, SlipTakerState, AreAllOf}
+use Rattle.host_rings.specs.{AnswerView, ComeFrom, SlipSenderState, SlipTakerState, AreAllOf}
 use Rattle.host_rings.proofs.Lists.{at_middle, at_each}
 use Rattle.host_rings.proofs.AnswerMoves.{comes}
 use Rattle.host_rings.proofs.Counts.{at_most_pushed}

@@ -1,7 +1,7 @@
 use Rattle.std.proofs.Common.{◌≡◌, ◌++◌, map}
 use Rattle.crossbeam_queue.specs.Passes.{view, IsPassOf}
 use Rattle.std.specs.Arc.{arc_value}
-use Rattle.host_rings.specs.AnswerViews.{reader_view}
+use Rattle.host_rings.specs.{reader_view}
 use Rattle.host_rings.proofs.answers.close_answers.Given as goal
 
 abbrev pub invariant-loop-sender : goal.invariant-loop-sender

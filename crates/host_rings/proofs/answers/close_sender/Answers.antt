@@ -1,6 +1,5 @@
 use Rattle.std.proofs.Common.{ap, ◌∙◌}
-use Rattle.host_rings.specs.declared.answer_view.AnswerView.{AnswerView}
-use Rattle.host_rings.specs.AnswerEnds.{SlipSenderState}
+use Rattle.host_rings.specs.{AnswerView, SlipSenderState}
 use Rattle.host_rings.proofs.AnswerMoves.{closes}
 use Rattle.host_rings.proofs.answers.close_sender.Goals as goal
 

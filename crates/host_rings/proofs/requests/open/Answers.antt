@@ -1,5 +1,5 @@
 use Rattle.std.proofs.Common.{ap}
-use Rattle.host_rings.specs.declared.request_view.RequestView.{RequestView}
+use Rattle.host_rings.specs.{RequestView}
 use Rattle.host_rings.proofs.RequestMoves.{opens}
 use Rattle.host_rings.proofs.requests.open.Goals as goal
 

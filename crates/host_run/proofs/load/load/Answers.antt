@@ -1,12 +1,9 @@
 use Rattle.std.proofs.Common.{Err, None, Option, Some, ap, inl, subst, sym}
 use Rattle.host_io.specs.declared.mem_disk.MemDisk.{MemDisk}
-use Rattle.host_report.specs.declared.report.Report.{Report}
-use Rattle.host_start.specs.Reading.{Makes}
-use Rattle.host_start.specs.declared.error.StartError.{StartError}
-use Rattle.host_run.specs.Runs.{RunLeaves}
+use Rattle.host_report.specs.{Report}
+use Rattle.host_start.specs.{Makes, StartError}
+use Rattle.host_run.specs.{RunLeaves, disk_seen, sink_seen, Making, plans_made, playing_by}
 use Rattle.host_run.specs.Scene.{Scene}
-use Rattle.host_run.specs.Seen.{disk_seen, sink_seen}
-use Rattle.host_run.specs.Words.{Making, plans_made, playing_by}
 use Rattle.host_run.proofs.Left.{refused_leaves, untouched}
 use Rattle.host_run.proofs.load.load.Goals as goal
 

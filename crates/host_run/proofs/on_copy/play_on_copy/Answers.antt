@@ -1,16 +1,13 @@
 use Rattle.std.proofs.Common.{◌≡◌, ◌∙◌, ℕ, List, length, true, ap, refl, subst, sym}
-use Rattle.crash_law.specs.Survival.{KeepsAtEachMoment, KeepsFlushed}
-use Rattle.host_block.specs.Crash.{IsCrashImage}
-use Rattle.host_block.specs.Disk.{DiskState}
-use Rattle.host_device.specs.Faults.{RoseBy, faulted_count}
-use Rattle.host_io.specs.Flat.{image_of}
-use Rattle.host_io.specs.MemDisk.{counts_of}
-use Rattle.host_model.specs.Changes.{changes_of}
-use Rattle.host_report.specs.Lawful.{IsLawful}
-use Rattle.host_start.specs.Copies.{image_in}
-use Rattle.host_start.specs.Images.{SaysOfImage, parts_of}
-use Rattle.script_model.specs.Plans.{plans_of}
-use Rattle.host_run.specs.Scene.{opening_image}
+use Rattle.crash_law.specs.{KeepsForced, KeepsForcedAtEachMoment, KeepsAtEachMoment, KeepsFlushed}
+use Rattle.host_block.specs.{IsCrashImage, DiskState}
+use Rattle.host_device.specs.{RoseBy, faulted_count}
+use Rattle.host_io.specs.{image_of, counts_of}
+use Rattle.host_model.specs.{changes_of}
+use Rattle.host_report.specs.{IsLawful}
+use Rattle.host_start.specs.{image_in, SaysOfImage, parts_of}
+use Rattle.script_model.specs.{plans_of}
+use Rattle.host_run.specs.{opening_image}
 use Rattle.host_run.proofs.Faults.{none_faulted, rose_by_none}
 use Rattle.host_run.proofs.Starts.{as_many, of_its_disk}
 use Rattle.host_run.proofs.on_copy.play_on_copy.Goals as goal
@@ -39,6 +36,10 @@ returns-in-Ok-play_start-clause-ran g c =
       keeps = record {
         kept = λ told left crash. subst (λ (i : List (List ℕ)). KeepsFlushed i run.report run.report.steps.items left) (sym same) (sound.flushed left crash);
         moments = λ told. subst (λ (i : List (List ℕ)). KeepsAtEachMoment i run.report) (sym same) sound.moments;
+      };
+      forced = record {
+        kept = λ told left crash. subst (λ (i : List (List ℕ)). KeepsForced i run.report left) (sym same) (sound.forced left crash);
+        moments = λ told. subst (λ (i : List (List ℕ)). KeepsForcedAtEachMoment i run.report) (sym same) sound.forced_moments;
       };
       left = record {
         size_is = ran.size ∙ ready.size;

@@ -1,10 +1,10 @@
 use Rattle.std.proofs.Common.{◌∙◌, true, ap, subst, sym}
 use Rattle.std.specs.Prelude.{IsTrue}
-use Rattle.host_block.specs.Disk.{DiskState}
-use Rattle.host_device.specs.Faults.{faulted_count}
-use Rattle.host_io.specs.Disks.{Shape}
-use Rattle.host_start.specs.Images.{IsOpened, IsPlaced}
-use Rattle.play_law.specs.Runs.{IsSound}
+use Rattle.host_block.specs.{DiskState}
+use Rattle.host_device.specs.{faulted_count}
+use Rattle.host_io.specs.{Shape}
+use Rattle.host_start.specs.{IsDiskOpened, IsPlaced}
+use Rattle.play_law.specs.{IsSound}
 use Rattle.host_run.proofs.Faults.{rose_before}
 use Rattle.host_run.proofs.on_disk.play_on_disk.Goals as goal
 
@@ -26,11 +26,12 @@ returns-in-Ok-play_start-clause-ran g c =
       lawful = λ told. (sound told).lawful;
       outlives = λ told. (sound told).crashes;
       keeps = record { kept = λ told. (sound told).flushed; moments = λ told. (sound told).moments };
+      forced = record { kept = λ told. (sound told).forced; moments = λ told. (sound told).forced_moments };
       left = record {
         size_is = ran.size ∙ ready.size;
         few = ran.few;
         own_blocks = ran.blocks ∙ (sym ready.shape.count ∙ sym (ap (λ (s : Shape). s.blocks) ran.shape));
-        attached = subst (λ (s : Shape). IsOpened c.args.size true s) (sym ran.shape) (ready.opened tt);
+        attached = subst (λ (s : Shape). IsDiskOpened c.args.size true s) (sym ran.shape) (ready.opened tt);
         cut_is = ran.cut;
         copy_is = (λ h. absurd (cc h), λ h. absurd (cc h));
         opened = λ told. tt;

@@ -1,15 +1,11 @@
 use Rattle.std.proofs.Common.{ap, inr, Option, Some, None, subst, sym}
 use Rattle.host_io.specs.declared.mem_disk.MemDisk.{MemDisk}
-use Rattle.host_report.specs.declared.report.Report.{Report}
-use Rattle.host_run.specs.Runs.{RunLeaves}
+use Rattle.host_report.specs.{Report}
+use Rattle.host_run.specs.{RunLeaves, DiskSeen, disk_seen, sink_seen, HasRunReport, playing_by}
 use Rattle.host_run.specs.Scene.{Scene}
-use Rattle.host_run.specs.Seen.{DiskSeen, disk_seen, sink_seen}
-use Rattle.host_run.specs.Statuses.{HasRunReport}
-use Rattle.host_run.specs.Words.{playing_by}
 use Rattle.host_run.proofs.Left.{played_leaves, refused_leaves}
-use Rattle.host_start.specs.Refusals.{IsAfterScript}
-use Rattle.host_start.specs.declared.error.StartError.{StartError}
-use Rattle.script_model.specs.Plans.{plans_of}
+use Rattle.host_start.specs.{IsAfterScript, StartError}
+use Rattle.script_model.specs.{plans_of}
 use Rattle.host_run.proofs.play_and_tell.play_and_tell.Goals as goal
 
 pub returns-in-Ok-clause-run : goal.returns-in-Ok-clause-run

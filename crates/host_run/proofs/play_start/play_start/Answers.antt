@@ -1,14 +1,13 @@
 use Rattle.std.proofs.Common.{◌≡◌, ◌∙◌, ℕ, ◌+◌, ◌≤◌, List, ap, arith, map, subst, sym}
 use Rattle.std.specs.Prelude.{All, IfOk}
 use Rattle.host_block.specs.declared.range.Range.{Range}
-use Rattle.host_model.specs.Changes.{changes_of}
-use Rattle.host_play.specs.Plays.{IsReportOf, KeepsImage}
-use Rattle.host_start.specs.declared.places.Place.{Place}
+use Rattle.host_model.specs.{changes_of}
+use Rattle.host_play.specs.{IsReportOf, KeepsImage}
+use Rattle.host_start.specs.{Place}
 use Rattle.play_law.proofs.Runs.{played_runs_are_laid_out, played_runs_are_sound}
-use Rattle.play_law.specs.Runs.{IsLaidOut, IsSound}
-use Rattle.script_model.specs.Plans.{plans_of}
-use Rattle.report_law.proofs.Reports.{gathered_runs_are_lawful}
-use Rattle.report_law.specs.Runs.{IsLawfulOnAnyDisk}
+use Rattle.play_law.specs.{IsLaidOut, IsSound, IsLawfulOnAnyDisk}
+use Rattle.script_model.specs.{plans_of}
+use Rattle.play_law.proofs.Reports.{gathered_runs_are_lawful}
 use Rattle.host_run.proofs.Starts.{on_one, on_three, on_two, ranges_inside}
 use Rattle.host_run.proofs.play_start.play_start.Goals as goal
 

@@ -1,7 +1,6 @@
 use Rattle.std.proofs.Common.{[], ◌∷◌, ℕ, subst}
 use Rattle.std.specs.Prelude.{codes, decimal}
-use Rattle.host_text.specs.Words.{line}
-use Rattle.host_text.specs.Writing.{Writes}
+use Rattle.host_text.specs.{line, Writes}
 use Rattle.host_run.proofs.refuse.put_no_part.Goals as goal
 
 pub returns-clause-text : goal.returns-clause-text

@@ -1,12 +1,9 @@
 use Rattle.std.proofs.Common.{Err, None, Option, ap, inl, subst, sym}
 use Rattle.host_io.specs.declared.mem_disk.MemDisk.{MemDisk}
-use Rattle.host_report.specs.declared.report.Report.{Report}
-use Rattle.host_run.specs.Runs.{RunLeaves}
+use Rattle.host_report.specs.{Report}
+use Rattle.host_run.specs.{RunLeaves, disk_seen, sink_seen, source_seen, playing_by}
 use Rattle.host_run.specs.Scene.{Scene}
-use Rattle.host_run.specs.Seen.{disk_seen, sink_seen, source_seen}
-use Rattle.host_run.specs.Words.{playing_by}
-use Rattle.host_start.specs.Refusals.{IsOfScript}
-use Rattle.host_start.specs.declared.error.StartError.{StartError}
+use Rattle.host_start.specs.{IsOfScript, StartError}
 use Rattle.host_run.proofs.Left.{refused_leaves, untouched}
 use Rattle.host_run.proofs.run_script.run_script.Goals as goal
 

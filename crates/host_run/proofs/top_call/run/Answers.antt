@@ -1,13 +1,8 @@
 use Rattle.std.proofs.Common.{◌≡◌, ◌≢◌, ◌∙◌, Option, ap, subst, sym}
 use Rattle.std.specs.Prelude.{IfSome}
 use Rattle.host_io.specs.declared.mem_disk.MemDisk.{MemDisk}
-use Rattle.host_run.specs.Listed.{Listing}
-use Rattle.host_run.specs.Refusals.{refusal_line, refused_status}
-use Rattle.host_run.specs.Scene.{Scene, opening_image}
-use Rattle.host_run.specs.Seen.{disk_seen, sink_seen, source_seen}
-use Rattle.host_run.specs.Words.{Playing, playing_in, said_by}
-use Rattle.host_run.specs.Writes.{PutsText}
-use Rattle.host_run.specs.declared.status.RunStatus.TheVariants.{Done, SinkFault}
+use Rattle.host_run.specs.{Listing, refusal_line, refused_status, opening_image, disk_seen, sink_seen, source_seen, Playing, playing_in, said_by, PutsText, Done, SinkFault}
+use Rattle.host_run.specs.Scene.{Scene}
 use Rattle.host_run.proofs.Calls.{if_none, listed_line}
 use Rattle.host_run.proofs.Left.{oom_leaves, untouched}
 use Rattle.host_run.proofs.top_call.run.Goals as goal

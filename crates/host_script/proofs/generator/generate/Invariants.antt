@@ -1,6 +1,5 @@
 use Rattle.std.proofs.Common.{◌≡◌, ◌+◌, ◌-◌, map, ◌++◌}
-use Rattle.script_model.specs.Plans.{plan_of}
-use Rattle.script_model.specs.Generate.{sessions_from, generated}
+use Rattle.script_model.specs.{plan_of, sessions_from, generated}
 use Rattle.host_script.proofs.generator.generate.Given as goal
 
 abbrev pub invariant-loop-index : goal.invariant-loop-index

@@ -1,6 +1,5 @@
 use Rattle.std.proofs.Common.{◌≡◌, ◌-◌, ◌∷◌, ◌++◌}
-use Rattle.script_model.specs.declared.script.ScriptLine.TheVariants.{Attach, Fill}
-use Rattle.script_model.specs.Generate.{request_lines, after_requests}
+use Rattle.script_model.specs.{Attach, Fill, request_lines, after_requests}
 use Rattle.host_script.proofs.generator.session.Given as goal
 
 abbrev pub invariant-loop-n : goal.invariant-loop-n

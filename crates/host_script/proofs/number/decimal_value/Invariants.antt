@@ -1,5 +1,5 @@
 use Rattle.std.proofs.Common.{◌≡◌, ◌<◌, ◌^◌, ◌≤◌, drop, length}
-use Rattle.script_model.specs.Numbers.{digits_after}
+use Rattle.script_model.specs.{digits_after}
 use Rattle.host_script.proofs.number.decimal_value.Given as goal
 
 abbrev pub invariant-loop-digit : goal.invariant-loop-digit

@@ -1,7 +1,6 @@
 use Rattle.std.proofs.Common.{◌≡◌, ◌≤◌, ◌+◌, length}
 use Rattle.std.specs.Str.Lines.{lines}
-use Rattle.script_model.specs.Draft.{nothing_yet}
-use Rattle.script_model.specs.Script.{after_lines}
+use Rattle.script_model.specs.{nothing_yet, after_lines}
 use Rattle.host_script.proofs.parser.parse.Given as goal
 
 abbrev pub invariant-loop-rest : goal.invariant-loop-rest

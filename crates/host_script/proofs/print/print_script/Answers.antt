@@ -1,9 +1,8 @@
 use Rattle.std.proofs.Common.{◌≡◌, [], List, ℕ, subst, append-nil}
 use Rattle.std.proofs.lemmas.Result.{IfOk-from_err}
-use Rattle.host_text.specs.Writing.{Puts}
+use Rattle.host_text.specs.{PutsHeldText}
 use Rattle.host_text.proofs.Putting.{finished, puts_after, puts_exit}
-use Rattle.script_model.specs.Plans.{plans_of}
-use Rattle.script_model.specs.Print.{script_text}
+use Rattle.script_model.specs.{plans_of, script_text}
 use Rattle.host_script.proofs.print.print_script.Goals as goal
 
 pub returns-in_err-write_script : goal.returns-in_err-write_script
@@ -17,7 +16,7 @@ returns-in_err-write_script g c =
 pub returns : goal.returns
 returns g c =
     let r = c.send.result in
-    let p = subst (λ (l : List ℕ). Puts g.K.Sink.tells g.K.Sink.faults g.K.Sink.appended c.args.out.now [] c.send.new.out c.send.new.self l r)
+    let p = subst (λ (l : List ℕ). PutsHeldText g.K.Sink.tells g.K.Sink.faults g.K.Sink.appended c.args.out.now [] c.send.new.out c.send.new.self l r)
     (append-nil (script_text (plans_of c.args.script.now)))
     (puts_after _ _ _ _ (rw c.new-held.ensures at c.in_ok-write_script.ensures) c.send.ensures.text) in
     let f = finished g.K.Sink.tells g.K.Sink.faults g.K.Sink.appended c.args.out.now c.send.new.out c.send.new.self (script_text (plans_of c.args.script.now)) r p c.send.ensures.empty in

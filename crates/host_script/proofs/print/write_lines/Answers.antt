@@ -1,8 +1,6 @@
 use Rattle.std.proofs.Common.{get_or, refl, arith}
 use Rattle.host_text.proofs.Putting.{puts_exit, stops_at}
-use Rattle.script_model.specs.declared.script.ScriptLine.{ScriptLine}
-use Rattle.script_model.specs.declared.script.ScriptLine.TheVariants.{Attach}
-use Rattle.script_model.specs.Print.{line_text}
+use Rattle.script_model.specs.{ScriptLine, Attach, line_text}
 use Rattle.host_script.proofs.print.write_lines.Goals as goal
 
 abbrev fallback : ScriptLine

@@ -1,7 +1,7 @@
 use Rattle.std.proofs.Common.{[], ◌∷◌, flat_map}
-use Rattle.host_text.specs.Words.{line}
+use Rattle.host_text.specs.{line}
 use Rattle.host_text.proofs.Putting.{puts_exit, stops_later, stops_longer}
-use Rattle.script_model.specs.Print.{end_word, line_text}
+use Rattle.script_model.specs.{end_word, line_text}
 use Rattle.host_script.proofs.print.write_session.Goals as goal
 
 pub returns-in_err-put_line : goal.returns-in_err-put_line

@@ -1,30 +1,14 @@
 use Rattle.std.proofs.Common.{◌≡◌, ℕ, ◌+◌, ◌<◌, true, IsTrue, List, map, All, refl, sym, ap, subst, ◌∙◌, arith}
 use Rattle.std.specs.List.{list_all}
-use Rattle.host_block.specs.Lists.{IsPrefix}
-use Rattle.host_group.specs.declared.seat.CellSeat.{CellSeat}
-use Rattle.host_group.specs.Ends.{AreThoseAdmitted, HasItsEnd, HaveRows}
-use Rattle.host_group.specs.Seats.{admitted, back}
-use Rattle.host_intake.specs.declared.plan.IntakePlan.{IntakePlan}
-use Rattle.host_intake.specs.Entries.{maker_of}
-use Rattle.host_intake.specs.State.{MemorySeat, plan_of}
-use Rattle.host_memory.specs.declared.limits.MemoryPlan.{MemoryPlan}
-use Rattle.host_memory.specs.Numbers.{is_numbered}
-use Rattle.host_memory.specs.State.{events}
-use Rattle.host_model.specs.declared.memory.MemEntry.{MemEntry}
-use Rattle.host_model.specs.Lists.{all_with_before}
-use Rattle.host_model.specs.Pages.{lifts_page}
-use Rattle.host_rings.specs.declared.slip.Slip.{Slip}
-use Rattle.host_rings.specs.AnswerEnds.{SlipSenderState}
-use Rattle.host_rings.specs.RequestEnds.{TakerState}
-use Rattle.host_rings.specs.Slips.{ComeFrom}
-use Rattle.host_turn.specs.History.{Continues, entries_of}
-use Rattle.host_turn.specs.Seats.{IsSeatOutside, number, seat_count, seen_by}
-use Rattle.host_session.specs.declared.hand.SessionHand.{SessionHand}
-use Rattle.host_session.specs.Client.{ClientState, IntakeSeat}
-use Rattle.host_session.specs.ClientFields.{client_state}
-use Rattle.host_session.specs.Kept.{IsClient}
-use Rattle.host_session.specs.Plan.{AreAllHands, IsShared, intake_plan, memory_plan}
-use Rattle.host_session.specs.Whole.{HasAllOf, IsWhole}
+use Rattle.host_block.specs.{IsPrefix}
+use Rattle.host_group.specs.{CellSeat, AreThoseAdmitted, HasItsEnd, HaveRows, admitted, back}
+use Rattle.host_intake.specs.{IntakePlan, maker_of, MemorySeat, plan_of_intake}
+use Rattle.host_memory.specs.{MemoryPlan, is_numbered, events}
+use Rattle.host_model.specs.{MemEntry, all_with_before, lifts_page}
+use Rattle.host_rings.specs.{Slip, SlipSenderState, TakerState, ComeFrom}
+use Rattle.host_log.specs.{Continues, entries_of}
+use Rattle.host_turn.specs.{IsSeatOutside, number, seat_count, seen_by}
+use Rattle.host_session.specs.{SessionHand, ClientState, IntakeSeat, client_state, IsClient, AreAllHands, IsShared, intake_plan, memory_plan, HasAllOf, IsSessionWhole}
 use Rattle.host_session.proofs.Whole.{all_but_last, all_last, all_mapped, all_one_more, all_others, all_senders, all_unmapped, intake_outside, map_twice, memory_outside}
 use Rattle.host_session.proofs.WholeClient.{client_of, home, phase_is}
 use Rattle.host_session.proofs.close.close_session.Goals as goal
@@ -47,7 +31,7 @@ into_parts-rows-requires c =
     let are : AreAllHands s.plan c.args.hands.items = subst (λ (x : ClientState). AreAllHands x.plan c.args.hands.items) (sym c.client.view_is) c.requires.hands in
     let closed : s.closed ≡ true = ap (λ (x : ClientState). x.closed) c.client.view_is ∙ c.requires.closed in
     let o = c.close-state.result in
-    let plan : plan_of o ≡ intake_plan s.plan = c.close-state.ensures.fixed_part ∙ part.plans.0 in
+    let plan : plan_of_intake o ≡ intake_plan s.plan = c.close-state.ensures.fixed_part ∙ part.plans.0 in
     let later : HasAllOf maker_of o.entries s.intake_seat =
     all_last (λ (q : IntakeSeat). Continues maker_of (number q) (seen_by q) o.entries) c.gather-intake_seats.result.intake_seats.items c.push_reserved.new.self.items c.client.inside.intake_seat c.push_reserved.ensures.items c.close-state.ensures.seats in
     phase_is s k closed o c.vouch.ensures plan later
@@ -59,7 +43,7 @@ close-buffers-requires-clause-outside c =
     let part : IsShared s.plan c.args.shared = subst (λ (x : ClientState). IsShared x.plan c.args.shared) (sym c.client.view_is) c.requires.shared in
     let are : AreAllHands s.plan c.args.hands.items = subst (λ (x : ClientState). AreAllHands x.plan c.args.hands.items) (sym c.client.view_is) c.requires.hands in
     let o = c.close-state.result in
-    let plan : plan_of o ≡ intake_plan s.plan = c.close-state.ensures.fixed_part ∙ part.plans.0 in
+    let plan : plan_of_intake o ≡ intake_plan s.plan = c.close-state.ensures.fixed_part ∙ part.plans.0 in
     all_one_more (λ (q : MemorySeat). IsSeatOutside c.args.shared.memory q) c.push_reserved-2.new.self.items c.push_reserved-3.new.self.items c.into_parts-rows.result.memory_seat c.push_reserved-3.ensures.items
     (all_one_more (λ (q : MemorySeat). IsSeatOutside c.args.shared.memory q) c.gather-intake_seats.result.memory_seats.items c.push_reserved-2.new.self.items c.client.inside.memory_seat c.push_reserved-2.ensures.items
     (all_mapped (λ (q : MemorySeat). IsSeatOutside c.args.shared.memory q) (λ (hand : SessionHand). hand.memory) c.args.hands.items c.gather-intake_seats.result.memory_seats.items c.gather-intake_seats.ensures.seats.1 (memory_outside s.plan c.args.shared part c.args.hands.items are))
@@ -94,7 +78,7 @@ pub returns-clause-kept : goal.returns-clause-kept
 returns-clause-kept c =
     let s : ClientState = client_state c.client.inside in
     let part : IsShared s.plan c.args.shared = subst (λ (x : ClientState). IsShared x.plan c.args.shared) (sym c.client.view_is) c.requires.shared in
-    let plan : plan_of c.close-state.result ≡ intake_plan s.plan = c.close-state.ensures.fixed_part ∙ part.plans.0 in
+    let plan : plan_of_intake c.close-state.result ≡ intake_plan s.plan = c.close-state.ensures.fixed_part ∙ part.plans.0 in
     let of : c.close-buffers.result.plan ≡ memory_plan s.plan = c.close-buffers.ensures.fixed_part ∙ part.plans.1 in
     let keeps : s.plan.spec.keeps ≡ c.args.client.plan.spec.keeps = ap (λ (x : ClientState). x.plan.spec.keeps) c.client.view_is in
     record {
@@ -111,7 +95,7 @@ returns-clause-whole c =
     let are : AreAllHands s.plan c.args.hands.items = subst (λ (x : ClientState). AreAllHands x.plan c.args.hands.items) (sym c.client.view_is) c.requires.hands in
     let closed : s.closed ≡ true = ap (λ (x : ClientState). x.closed) c.client.view_is ∙ c.requires.closed in
     let o = c.close-state.result in
-    let plan : plan_of o ≡ intake_plan s.plan = c.close-state.ensures.fixed_part ∙ part.plans.0 in
+    let plan : plan_of_intake o ≡ intake_plan s.plan = c.close-state.ensures.fixed_part ∙ part.plans.0 in
     let later : HasAllOf maker_of o.entries s.intake_seat =
     all_last (λ (q : IntakeSeat). Continues maker_of (number q) (seen_by q) o.entries) c.gather-intake_seats.result.intake_seats.items c.push_reserved.new.self.items c.client.inside.intake_seat c.push_reserved.ensures.items c.close-state.ensures.seats in
     let m = c.close-buffers.result in
@@ -123,7 +107,7 @@ returns-clause-whole c =
     all_last (λ (q : MemorySeat). Continues (λ (e : MemEntry). e.hand) (number q) (seen_by q) m.entries) c.gather-intake_seats.result.memory_seats.items c.push_reserved-2.new.self.items c.client.inside.memory_seat c.push_reserved-2.ensures.items fewer in
     let hands : List SessionHand = c.args.hands.items in
     let taken = c.into_parts-rows.ensures in
-    let whole : IsWhole s hands s.log c.into_parts-rows.result.rows.items m.entries = record {
+    let whole : IsSessionWhole s hands s.log c.into_parts-rows.result.rows.items m.entries = record {
       intake = o;
       log_is = refl;
       rows_are = taken.rows;
@@ -163,5 +147,5 @@ returns-clause-whole c =
       };
       client_of = client_of s k closed o c.vouch.ensures plan later taken.before_close m.entries numbers later_h;
     } in
-    subst (λ (x : ClientState). IsWhole x hands c.client.inside.log.items c.into_parts-rows.result.rows.items c.into_entries.result.items) c.client.view_is
-    (subst (λ (h : List MemEntry). IsWhole s hands s.log c.into_parts-rows.result.rows.items h) (sym c.into_entries.ensures.entries) whole)
+    subst (λ (x : ClientState). IsSessionWhole x hands c.client.inside.log.items c.into_parts-rows.result.rows.items c.into_entries.result.items) c.client.view_is
+    (subst (λ (h : List MemEntry). IsSessionWhole s hands s.log c.into_parts-rows.result.rows.items h) (sym c.into_entries.ensures.entries) whole)

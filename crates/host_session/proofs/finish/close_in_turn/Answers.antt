@@ -1,5 +1,5 @@
 use Rattle.std.proofs.Common.{◌≡◌, max, MatchBool, true, ap, sym, subst, ◌∙◌}
-use Rattle.host_session.specs.Closing.{IsClosedInTurn, IsOpenInTurn, is_landed}
+use Rattle.host_session.specs.{IsClosedInTurn, IsOpenInTurn, is_landed}
 use Rattle.host_session.proofs.Shutting.{closed_in_turn, open_in_turn, unlanded_in_turn, when_false, when_true}
 use Rattle.host_session.proofs.finish.close_in_turn.Goals as goal
 

@@ -1,8 +1,8 @@
 use Rattle.std.proofs.Common.{length, ap, sym, subst, ◌∙◌}
-use Rattle.host_frames.specs.Seats.{contents}
-use Rattle.host_memory.specs.State.{MemoryState}
-use Rattle.host_model.specs.declared.memory.MemEntry.{MemEntry}
-use Rattle.host_turn.specs.History.{Adds}
+use Rattle.host_frames.specs.{contents}
+use Rattle.host_memory.specs.{MemoryState}
+use Rattle.host_model.specs.{MemEntry}
+use Rattle.host_log.specs.{Adds}
 use Rattle.host_session.proofs.Dropping.{dropped_adds, dropped_more, fewer_held, pins_same}
 use Rattle.host_session.proofs.finish.drop_all.Goals as goal
 

@@ -1,11 +1,8 @@
 use Rattle.std.proofs.Common.{◌≡◌, length, filter}
 use Rattle.std.specs.List.{range_with_len}
-use Rattle.host_frames.specs.Seats.{seat_pool}
-use Rattle.host_memory.specs.Entries.{given_count}
-use Rattle.host_memory.specs.Held.{holds_pages}
-use Rattle.host_memory.specs.Pins.{pins_left}
-use Rattle.host_memory.specs.State.{history}
-use Rattle.host_session.specs.Closing.{HasDropped}
+use Rattle.host_frames.specs.{seat_pool}
+use Rattle.host_memory.specs.{given_count, holds_pages, pins_left, history}
+use Rattle.host_session.specs.{HasDropped}
 use Rattle.host_session.proofs.finish.drop_all.Given as goal
 
 abbrev pub invariant-loop-pages : goal.invariant-loop-pages

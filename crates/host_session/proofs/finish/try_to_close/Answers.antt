@@ -1,5 +1,5 @@
 use Rattle.std.proofs.Common.{[], ◌∷◌, sym, ◌∙◌}
-use Rattle.host_session.specs.Client.{phase_for}
+use Rattle.host_session.specs.{phase_for}
 use Rattle.host_session.proofs.Shutting.{attempt_answer, ending_phase}
 use Rattle.host_session.proofs.Turning.{entered_turns}
 use Rattle.host_session.proofs.finish.try_to_close.Goals as goal

@@ -1,14 +1,9 @@
 use Rattle.std.proofs.Common.{◌≡◌, List, [], ◌∷◌, ◌++◌, sym, ap, ◌∙◌}
-use Rattle.host_record.specs.declared.finish.Finish.{Finish}
-use Rattle.host_intake.specs.declared.entry.IntakeEntry.{IntakeEntry}
-use Rattle.host_intake.specs.declared.entry.IntakeEntry.TheVariants.{Turned}
-use Rattle.host_intake.specs.declared.entry.Phase.{Phase}
-use Rattle.host_intake.specs.declared.entry.Phase.TheVariants.{Running}
-use Rattle.host_intake.specs.State.{IntakeState}
-use Rattle.host_intake.specs.Told.{turns}
-use Rattle.host_model.specs.Lists.{last}
-use Rattle.host_turn.specs.Seats.{seen_by}
-use Rattle.host_session.specs.Client.{phase_for}
+use Rattle.host_record.specs.{Finish}
+use Rattle.host_intake.specs.{IntakeEntry, Turned, Phase, Running, IntakeState, turns}
+use Rattle.host_model.specs.{last}
+use Rattle.host_turn.specs.{seen_by}
+use Rattle.host_session.specs.{phase_for}
 use Rattle.host_session.proofs.Turning.{entered_turns, same_seat, turned_more}
 use Rattle.host_session.proofs.finish.turn_to.Goals as goal
 use Rattle.host_session.proofs.finish.turn_to.Goals.{in-Drain, in-Abort}

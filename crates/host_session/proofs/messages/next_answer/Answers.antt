@@ -1,6 +1,6 @@
 use Rattle.std.proofs.Common.{sym, subst}
-use Rattle.host_rings.specs.AnswerEnds.{FoundNone, SlipTakerState}
-use Rattle.host_session.specs.Calls.{HasFoundAnswer, HasThrown}
+use Rattle.host_rings.specs.{FoundNoSlip, SlipTakerState}
+use Rattle.host_session.specs.{HasFoundAnswer, HasThrown}
 use Rattle.host_session.proofs.Thrown.{answer_found, thrown_none, thrown_one}
 use Rattle.host_session.proofs.messages.next_answer.Goals as goal
 
@@ -15,7 +15,7 @@ returns-in_err-slip g c =
     let e = c.in_err-slip.ensures in
     subst (λ r. HasFoundAnswer c.args.sent c.args.taker.now c.pop.new.self r) (sym c.from_residual.ensures) (record {
       before = subst (λ (t : SlipTakerState). HasThrown c.args.sent c.args.taker.now t) (sym e.0) c.loop.invariant.2;
-      empty = subst (λ (t : SlipTakerState). FoundNone t) (sym e.0) e.1;
+      empty = subst (λ (t : SlipTakerState). FoundNoSlip t) (sym e.0) e.1;
     })
 
 pub returns-in-Some-answer_in : goal.returns-in-Some-answer_in

@@ -1,4 +1,4 @@
-use Rattle.host_session.specs.Calls.{HasThrown}
+use Rattle.host_session.specs.{HasThrown}
 use Rattle.host_session.proofs.messages.next_answer.Given as goal
 
 abbrev pub invariant-loop : goal.invariant-loop

@@ -1,6 +1,6 @@
 use Rattle.std.proofs.Common.{◌≡◌, ◌+◌, ◌≤◌, ◌++◌, map, reverse, vec_len, vec_capacity}
-use Rattle.host_rings.specs.Places.{EachPlace}
-use Rattle.host_session.specs.Opened.{HaveRoomAs, IsDealt, IsToDeal}
+use Rattle.host_rings.specs.{EachPlace}
+use Rattle.host_session.specs.{HaveRoomAs, IsDealt, IsToDeal}
 use Rattle.host_session.proofs.open.deal.Given as goal
 
 abbrev pub invariant-loop-closing : goal.invariant-loop-closing

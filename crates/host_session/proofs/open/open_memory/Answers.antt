@@ -1,11 +1,9 @@
 use Rattle.std.proofs.Common.{ℕ, ◌+◌, ◌*◌, sym, ap, subst, ◌∙◌}
 use Rattle.atomic_table.specs.Seated.{TableId}
-use Rattle.host_frames.specs.Seats.{pool_id}
-use Rattle.host_memory.specs.declared.limits.MemoryPlan.{MemoryPlan}
-use Rattle.host_memory.specs.State.{MemoryState}
-use Rattle.host_turn.specs.Seats.{AreNewSeats, book_id}
-use Rattle.host_session.specs.declared.spec.SessionSpec.{SessionSpec}
-use Rattle.host_session.specs.Plan.{id_limit}
+use Rattle.host_frames.specs.{pool_id}
+use Rattle.host_memory.specs.{MemoryPlan, MemoryState}
+use Rattle.host_turn.specs.{AreNewSeats, book_id}
+use Rattle.host_session.specs.{SessionSpec, id_limit}
 use Rattle.host_session.proofs.open.open_memory.Goals as goal
 
 abbrev planned : SessionSpec → ℕ → TableId × ℕ → ℕ → ℕ → MemoryPlan

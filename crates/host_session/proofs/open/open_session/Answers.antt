@@ -1,14 +1,11 @@
 use Rattle.std.proofs.Common.{◌≡◌, ◌+◌, vec_len, refl, sym, ap, ◌∙◌, arith}
-use Rattle.host_frames.specs.declared.pool.Pool.{Pool}
-use Rattle.host_frames.specs.Seats.{page_size, pool_id}
-use Rattle.host_group.specs.Seats.{cells_id}
-use Rattle.host_intake.specs.State.{IntakeState, plan_of}
-use Rattle.host_memory.specs.State.{MemoryState}
-use Rattle.host_rings.specs.AnswerEnds.{SlipTakerState}
-use Rattle.host_rings.specs.RequestEnds.{SenderState}
-use Rattle.host_turn.specs.Seats.{book_id, opening_of, seat_book}
-use Rattle.host_session.specs.declared.shared.SessionShared.{SessionShared}
-use Rattle.host_session.specs.Plan.{IsShared, SessionPlan, intake_plan, memory_plan, memory_plan_for}
+use Rattle.host_frames.specs.{Pool, page_size, pool_id}
+use Rattle.host_group.specs.{cells_id}
+use Rattle.host_intake.specs.{IntakeState, plan_of_intake}
+use Rattle.host_memory.specs.{MemoryState}
+use Rattle.host_rings.specs.{SlipTakerState, SenderState}
+use Rattle.host_turn.specs.{book_id, opening_of, seat_book}
+use Rattle.host_session.specs.{SessionShared, IsShared, SessionPlan, intake_plan, memory_plan, memory_plan_for}
 use Rattle.host_session.proofs.Opened.{all_fresh, all_hands, intake_plan_is, new_kept, new_seat_in}
 use Rattle.host_session.proofs.open.open_session.Goals as goal
 
@@ -34,12 +31,12 @@ invariant_of-client c =
     let left_adm : vec_len c.hand_out-admissions.new.seats ≡ c.args.hands + 1 = omega (arith, many, adm.count.0) in
     let left_mem : vec_len c.hand_out-memory_seat.new.seats ≡ c.args.hands = omega (arith, left_adm, mem.count.0) in
     let left_int : vec_len c.hand_out-intake_seat.new.seats ≡ c.args.hands = omega (arith, c.in-Ok.ensures.seats.0, int.count.0) in
-    let of_intake : plan_of (opening_of c.in-Ok.intake) ≡ intake_plan p =
-    ap plan_of book.1 ∙ intake_plan_is p c.in_ok-state.state c.in_ok-sender.requests c.hand_out-admissions.result c.in_ok-cells.cell_seat c.in_ok-state.ensures
+    let of_intake : plan_of_intake (opening_of c.in-Ok.intake) ≡ intake_plan p =
+    ap plan_of_intake book.1 ∙ intake_plan_is p c.in_ok-state.state c.in_ok-sender.requests c.hand_out-admissions.result c.in_ok-cells.cell_seat c.in_ok-state.ensures
     (sym c.in_ok-sender.ensures.ring) (adm.seat.2 ∙ left_adm) (adm.seat.0 ∙ sym mem.seat.0) (c.in_ok-cells.ensures.0.0 ∙ ap cells_id (sym c.of-2.ensures)) in
     let of_memory : (opening_of c.in_ok-memory.memory).plan ≡ memory_plan p = made.plan ∙ ap (λ (x : Pool). memory_plan_for c.args.spec c.args.hands (pool_id x)) (sym c.of.ensures) in
     new_kept _
-    (new_seat_in (λ (s : IntakeState). s.entries) plan_of (book_id c.in-Ok.intake) (opening_of c.in-Ok.intake) (vec_len c.hand_out-intake_seat.new.seats) c.args.hands c.hand_out-intake_seat.result p.intake (intake_plan p) int.seat refl left_int of_intake)
+    (new_seat_in (λ (s : IntakeState). s.entries) plan_of_intake (book_id c.in-Ok.intake) (opening_of c.in-Ok.intake) (vec_len c.hand_out-intake_seat.new.seats) c.args.hands c.hand_out-intake_seat.result p.intake (intake_plan p) int.seat refl left_int of_intake)
     (new_seat_in (λ (m : MemoryState). m.entries) (λ (m : MemoryState). m.plan) (book_id c.in_ok-memory.memory) (opening_of c.in_ok-memory.memory) (vec_len c.hand_out-memory_seat.new.seats) c.args.hands c.hand_out-memory_seat.result p.memory (memory_plan p) mem.seat refl left_mem of_memory)
     (ap page_size c.of.ensures ∙ c.requires.size)
     (ap (λ (s : SenderState). s.records) c.in_ok-sender.ensures.sender)
@@ -83,8 +80,8 @@ returns c =
     let shared : SessionShared = record { intake = c.in-Ok.intake; memory = c.in_ok-memory.memory; cells = c.in_ok-cells.cells } in
     let many : vec_len c.in_ok-memory.memory_seats ≡ c.args.hands + 2 = c.in_ok-memory.memory_seats.ok.0 ∙ made.count.1 in
     let left_adm : vec_len c.hand_out-admissions.new.seats ≡ c.args.hands + 1 = omega (arith, many, adm.count.0) in
-    let of_intake : plan_of (opening_of c.in-Ok.intake) ≡ intake_plan p =
-    ap plan_of book.1 ∙ intake_plan_is p c.in_ok-state.state c.in_ok-sender.requests c.hand_out-admissions.result c.in_ok-cells.cell_seat c.in_ok-state.ensures
+    let of_intake : plan_of_intake (opening_of c.in-Ok.intake) ≡ intake_plan p =
+    ap plan_of_intake book.1 ∙ intake_plan_is p c.in_ok-state.state c.in_ok-sender.requests c.hand_out-admissions.result c.in_ok-cells.cell_seat c.in_ok-state.ensures
     (sym c.in_ok-sender.ensures.ring) (adm.seat.2 ∙ left_adm) (adm.seat.0 ∙ sym mem.seat.0) (c.in_ok-cells.ensures.0.0 ∙ ap cells_id (sym c.of-2.ensures)) in
     let of_memory : (opening_of c.in_ok-memory.memory).plan ≡ memory_plan p = made.plan ∙ ap (λ (x : Pool). memory_plan_for c.args.spec c.args.hands (pool_id x)) (sym c.of.ensures) in
     let none_taken = ap (λ (s : IntakeState). s.entries) (book.1 ∙ c.in_ok-state.ensures) in

@@ -1,10 +1,9 @@
 use Rattle.std.proofs.Common.{◌≡◌, ◌∙◌, List, ◌∷◌, ◌++◌, [], length, map, subst, sym, arith, ◌+◌, ℕ, rules}
 use Rattle.std.proofs.lemmas.List.{length-map}
 use Rattle.host_start.proofs.PlaceLemmas.{AreFirst, first_unserved, more_first, part_at, pushed}
-use Rattle.host_start.specs.Images.{IsFirstUnserved}
-use Rattle.host_start.specs.declared.places.Place.{Place}
-use Rattle.host_part.specs.Ranges.{IsRangeOf}
-use Rattle.script_model.specs.declared.script.SessionScript.{SessionScript}
+use Rattle.host_start.specs.{IsFirstUnserved, Place}
+use Rattle.host_part.specs.{IsRangeOf}
+use Rattle.script_model.specs.{SessionScript}
 use Rattle.host_start.proofs.places.find_places.Goals as goal
 
 abbrev part_of : SessionScript → ℕ

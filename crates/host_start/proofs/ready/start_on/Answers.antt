@@ -1,14 +1,11 @@
 use Rattle.std.proofs.Common.{◌∙◌, List, ℕ, true, Err, ap, refl, sym, subst, length, arith}
-use Rattle.host_block.specs.Disk.{DiskState}
-use Rattle.host_gpt.specs.Image.{current_image}
-use Rattle.host_io.specs.Flat.{image_of}
-use Rattle.host_start.specs.Copies.{image_in}
-use Rattle.host_start.specs.Images.{IsPlaced, IsSmallEnough, SaysOfBlocks, SaysOfImage, SaysOfTable, parts_of}
-use Rattle.host_start.specs.Refusals.{IsAfterScript}
-use Rattle.host_start.specs.declared.error.StartError.{StartError}
+use Rattle.host_block.specs.{DiskState}
+use Rattle.host_gpt.specs.{current_image}
+use Rattle.host_io.specs.{image_of}
+use Rattle.host_start.specs.{image_in, IsPlaced, IsSmallEnough, SaysOfBlocks, SaysOfImage, SaysOfTable, parts_of, IsAfterScript, StartError}
 use Rattle.host_start.proofs.CopyLemmas.{length-image_in}
 use Rattle.host_start.proofs.ImageLemmas.{after_table, as_many_kept, no_rise, same_kept, same_size, says_few, says_of_image}
-use Rattle.script_model.specs.Plans.{plans_of}
+use Rattle.script_model.specs.{plans_of}
 use Rattle.host_start.proofs.ready.start_on.Goals as goal
 
 pub returns-in-Ok-clause-placed : goal.returns-in-Ok-clause-placed

@@ -1,12 +1,8 @@
 use Rattle.std.proofs.Common.{[], List, ℕ, ◌≡◌, length, subst}
 use Rattle.std.specs.Prelude.{IfErr, IfOk, IfSome}
-use Rattle.host_start.specs.Copies.{image_in}
-use Rattle.host_start.specs.Images.{SaysOfBlocks, SaysOfImage, parts_of}
-use Rattle.host_start.specs.declared.copy.ImageCopy.{ImageCopy}
-use Rattle.host_start.specs.declared.ready.NotReady.{NotReady}
-use Rattle.host_start.specs.declared.ready.ReadyCopy.{ReadyCopy}
+use Rattle.host_start.specs.{image_in, SaysOfBlocks, SaysOfImage, parts_of, ImageCopy, NotReady, ReadyCopy}
 use Rattle.host_start.proofs.ImageLemmas.{after_image, found_with, image_not_content, never_faults, says_early}
-use Rattle.script_model.specs.Plans.{plans_of}
+use Rattle.script_model.specs.{plans_of}
 use Rattle.host_start.proofs.ready.start_on_copy.Goals as goal
 
 pub returns-in-Err-clause-cause : goal.returns-in-Err-clause-cause

@@ -1,9 +1,9 @@
 use Rattle.std.proofs.Common.{◌≡◌, ◌∙◌, [], ℕ, true, ap, subst, sym}
 use Rattle.std.specs.Prelude.{IfErr}
-use Rattle.host_io.specs.Disks.{Shape}
-use Rattle.host_start.specs.Images.{IsOpened, SaysOfBlocks, parts_of}
+use Rattle.host_io.specs.{Shape}
+use Rattle.host_start.specs.{IsDiskOpened, SaysOfBlocks, parts_of}
 use Rattle.host_start.proofs.ImageLemmas.{after_image, after_tables, attached_by, few_on, fresh_by, placed_on, refused_on, says_early}
-use Rattle.script_model.specs.Plans.{plans_of}
+use Rattle.script_model.specs.{plans_of}
 use Rattle.host_start.proofs.ready.start_on_disk.Goals as goal
 
 pub returns-in-Err-clause-cause : goal.returns-in-Err-clause-cause
@@ -35,7 +35,7 @@ returns-in-Ok-clause-refused g c = λ told.
 
 pub returns-in-Ok-clause-opened : goal.returns-in-Ok-clause-opened
 returns-in-Ok-clause-opened g c = λ started.
-    subst (λ (s : Shape). IsOpened c.args.size true s) (sym c.on.ensures.shape)
+    subst (λ (s : Shape). IsDiskOpened c.args.size true s) (sym c.on.ensures.shape)
     (record { attached = c.in-Ok.ensures.is_attached tt; writable = c.in-Ok.ensures.as_asked tt; of_size = c.in-Ok.ensures.of_size tt })
 
 pub returns-in-Err-clause-opened : goal.returns-in-Err-clause-opened

@@ -1,7 +1,7 @@
 use Rattle.std.proofs.Common.{List, ℕ, subst}
-use Rattle.host_start.specs.Reading.{Means}
+use Rattle.host_start.specs.{Means}
 use Rattle.host_start.proofs.ReadLemmas.{gives}
-use Rattle.script_model.specs.Script.{script_of}
+use Rattle.script_model.specs.{script_of}
 use Rattle.host_start.proofs.script.read_script.Goals as goal
 
 pub returns-clause-script : goal.returns-clause-script

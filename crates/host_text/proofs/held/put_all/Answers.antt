@@ -3,7 +3,7 @@ use Rattle.std.proofs.Math.Seq.{take-add}
 use Rattle.std.proofs.lemmas.Grind.{common_steps}
 use Rattle.std.proofs.lemmas.List.{take-append-drop, take_rest}
 use Rattle.std.proofs.lemmas.Result.{err_from_is_err_and}
-use Rattle.host_text.specs.Writing.{Adds, Stops}
+use Rattle.host_text.specs.{AppendsText, Stops}
 use Rattle.host_text.proofs.Putting.{adds_front, adds_more, stops_here, stops_later}
 use Rattle.host_text.proofs.held.put_all.Goals as goal
 
@@ -25,7 +25,7 @@ loop-count-preserved g c =
     let took = adds_front c.loop-count.out c.put.new.self _ c.in_ok-count.ensures.tells c.in_ok-count.ensures.cause.later (λ t. c.in_ok-count.ensures.bytes.ok t) in
     record {
       within = grind (arith, common_steps);
-      put = subst (λ (l : List ℕ). Adds g.K.Sink.tells g.K.Sink.faults g.K.Sink.appended c.args.out.now [] c.put.new.self [] l)
+      put = subst (λ (l : List ℕ). AppendsText g.K.Sink.tells g.K.Sink.faults g.K.Sink.appended c.args.out.now [] c.put.new.self [] l)
           (ap (λ (l : List ℕ). take count piece ++ take n l) (take_rest piece count) ∙ sym (take-add count n piece))
           (adds_more c.loop-count.invariant.put took);
     }

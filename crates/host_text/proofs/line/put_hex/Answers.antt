@@ -1,5 +1,5 @@
 use Rattle.std.proofs.Common.{get_or, refl, arith}
-use Rattle.host_text.specs.Words.{hex_byte}
+use Rattle.host_text.specs.{hex_byte}
 use Rattle.host_text.proofs.Putting.{adds_at, puts_exit, stops_at}
 use Rattle.host_text.proofs.line.put_hex.Goals as goal
 

@@ -1,4 +1,4 @@
-use Rattle.host_text.specs.Printed.{printed}
+use Rattle.host_text.specs.{printed}
 use Rattle.host_text.proofs.Putting.{puts_after, puts_exit, stops_longer}
 use Rattle.host_text.proofs.line.put_next.Goals as goal
 

@@ -1,5 +1,5 @@
 use Rattle.std.proofs.Common.{arith}
-use Rattle.host_text.specs.Printed.{after_space}
+use Rattle.host_text.specs.{after_space}
 use Rattle.host_text.proofs.Putting.{adds_at, puts_exit, stops_at}
 use Rattle.host_text.proofs.line.put_rest.Goals as goal
 

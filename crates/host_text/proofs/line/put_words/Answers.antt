@@ -1,5 +1,5 @@
 use Rattle.std.proofs.Common.{flat_map}
-use Rattle.host_text.specs.Printed.{after_space}
+use Rattle.host_text.specs.{after_space}
 use Rattle.host_text.proofs.Putting.{puts_exit, stops_longer}
 use Rattle.host_text.proofs.line.put_words.Goals as goal
 

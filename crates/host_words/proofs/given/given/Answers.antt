@@ -2,7 +2,7 @@ use Rattle.std.proofs.Common.{Err, ◌∙◌, ap, sym, subst, map}
 use Rattle.clap.specs.Faults.{fault_of, is_simple_and_free}
 use Rattle.clap.specs.Kinds.{HasKind}
 use Rattle.clap.specs.Simple.{App, matches_of}
-use Rattle.host_words.specs.Matches.{IsGiven}
+use Rattle.host_words.specs.{IsGiven}
 use Rattle.clap.proofs.WalkLemmas.{both}
 use Rattle.host_words.proofs.Rules.{is_simple_syntax}
 use Rattle.host_words.proofs.Parsed.{given_failed, given_ok}

@@ -1,6 +1,5 @@
 use Rattle.std.proofs.Common.{refl, codes}
-use Rattle.host_words.specs.Commands.{load_meaning, load_options}
-use Rattle.host_words.specs.Matches.{IsProper}
+use Rattle.host_words.specs.{load_meaning, load_options, IsProper}
 use Rattle.host_words.proofs.Answered.{accepted, meaningless, refused_up}
 use Rattle.host_words.proofs.reader.read_load.Goals as goal
 

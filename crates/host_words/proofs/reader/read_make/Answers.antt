@@ -1,6 +1,5 @@
 use Rattle.std.proofs.Common.{refl, codes}
-use Rattle.host_words.specs.Commands.{make_meaning, make_options}
-use Rattle.host_words.specs.Matches.{IsProper}
+use Rattle.host_words.specs.{make_meaning, make_options, IsProper}
 use Rattle.host_words.proofs.Answered.{accepted, meaningless, refused_up}
 use Rattle.host_words.proofs.reader.read_make.Goals as goal
 

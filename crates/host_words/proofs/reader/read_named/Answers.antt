@@ -1,4 +1,4 @@
-use Rattle.host_words.specs.Commands.{list_meaning, list_options, load_meaning, load_options, make_meaning, make_options, run_meaning, run_options}
+use Rattle.host_words.specs.{list_meaning, list_options, load_meaning, load_options, make_meaning, make_options, run_meaning, run_options}
 use Rattle.host_words.proofs.Answered.{is_list, is_load, is_make, is_run, named_as, named_none}
 use Rattle.host_words.proofs.reader.read_named.Goals as goal
 

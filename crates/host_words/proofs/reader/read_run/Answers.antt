@@ -1,6 +1,5 @@
 use Rattle.std.proofs.Common.{refl, codes}
-use Rattle.host_words.specs.Commands.{run_meaning, run_options}
-use Rattle.host_words.specs.Matches.{IsProper}
+use Rattle.host_words.specs.{run_meaning, run_options, IsProper}
 use Rattle.host_words.proofs.Answered.{accepted, meaningless, refused_up}
 use Rattle.host_words.proofs.reader.read_run.Goals as goal
 

@@ -1,7 +1,7 @@
 use Rattle.std.proofs.Common.{◌≡◌, ◌∙◌, ◌-◌, sym, ap, map, drop, take, length, length-drop, arith, List}
 use Rattle.std.proofs.lemmas.List.{take_all}
 use Rattle.std.specs.Borrow.{Bor}
-use Rattle.host_words.specs.Given.{Word, has_short}
+use Rattle.host_words.specs.{Word, has_short}
 use Rattle.host_words.proofs.Answered.{short_none}
 use Rattle.host_words.proofs.reader.read_words.Goals as goal
 

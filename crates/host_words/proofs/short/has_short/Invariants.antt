@@ -1,5 +1,5 @@
 use Rattle.std.proofs.Common.{◌≡◌, map, drop}
-use Rattle.host_words.specs.Given.{has_short}
+use Rattle.host_words.specs.{has_short}
 use Rattle.host_words.proofs.short.has_short.Given as goal
 
 abbrev pub invariant-loop-word : goal.invariant-loop-word

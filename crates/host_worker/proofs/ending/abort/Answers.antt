@@ -1,5 +1,5 @@
 use Rattle.std.proofs.Common.{Bool, subst}
-use Rattle.host_session.specs.Closing.{IsCloseAnswer}
+use Rattle.host_session.specs.{IsCloseAnswer}
 use Rattle.host_worker.proofs.Closed.{abort_ends, abort_hand, abort_helped, abort_open, aborting_client, aborts_with}
 use Rattle.host_worker.proofs.ending.abort.Goals as goal
 

@@ -1,5 +1,5 @@
 use Rattle.std.proofs.Common.{Bool, subst}
-use Rattle.host_session.specs.Closing.{IsCloseAnswer}
+use Rattle.host_session.specs.{IsCloseAnswer}
 use Rattle.host_worker.proofs.Closed.{drain_ends, drain_hand, drain_helped, drain_open, draining_client, drains_with}
 use Rattle.host_worker.proofs.ending.drain.Goals as goal
 

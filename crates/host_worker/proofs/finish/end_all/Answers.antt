@@ -1,8 +1,8 @@
 use Rattle.std.proofs.Common.{◌≡◌, ◌++◌, ◌∷◌, [], Bool, List, length, refl, sym, ap, subst, ◌∙◌, arith, length-append}
 use Rattle.std.specs.Option.{option_to_list}
 use Rattle.std.proofs.lemmas.List.{length-reverse}
-use Rattle.host_report.specs.declared.session.SessionReport.{SessionReport}
-use Rattle.host_session.specs.Keeping.{AreKeptAs}
+use Rattle.host_report.specs.{SessionReport}
+use Rattle.host_session.specs.{AreKeptAs}
 use Rattle.host_worker.proofs.Taking.{AreEndedSoFar, end_as_reported, ended_more, ended_none, next_to_end, own_to_end}
 use Rattle.host_worker.proofs.finish.end_all.Goals as goal
 

@@ -1,7 +1,7 @@
 use Rattle.std.proofs.Common.{◌≡◌, ℕ, ◌+◌, ◌-◌, List, Vec, length, sym, subst, arith}
 use Rattle.std.specs.declared.alloc.Global.{Global}
-use Rattle.host_session.specs.declared.hand.SessionHand.{SessionHand}
-use Rattle.host_worker.specs.Starts.{AreDealt}
+use Rattle.host_session.specs.{SessionHand}
+use Rattle.host_worker.specs.{AreSharesDealt}
 use Rattle.host_worker.proofs.Dealt.{AreDealtFrom, dealt_all, dealt_more, dealt_none, some_left}
 use Rattle.host_worker.proofs.prepare.deal.Goals as goal
 
@@ -35,5 +35,5 @@ returns c =
     let i = c.loop.invariant in
     let done : c.args.hands - c.loop.counter ≡ 0 = omega (arith, c.loop-test.false) in
     let count : length c.loop.shares.items ≡ c.args.hands = omega (arith, i.1, c.loop.shares.ok.0, c.loop-test.false, c.loop.auto.counter-end) in
-    subst (λ (l : List (Vec SessionHand Global)). AreDealt c.args.hands c.args.sessions.now.items c.loop.sessions.items l) (sym c.reverse.ensures.items)
+    subst (λ (l : List (Vec SessionHand Global)). AreSharesDealt c.args.hands c.args.sessions.now.items c.loop.sessions.items l) (sym c.reverse.ensures.items)
     (dealt_all c.args.hands (c.args.hands - c.loop.counter) c.args.sessions.now.items c.loop.sessions.items c.loop.shares.items done count i.0)

@@ -1,5 +1,5 @@
 use Rattle.std.proofs.Common.{◌+◌, List, sym, subst, arith}
-use Rattle.host_session.specs.declared.hand.SessionHand.{SessionHand}
+use Rattle.host_session.specs.{SessionHand}
 use Rattle.host_worker.proofs.Dealt.{AreGiven, given_more}
 use Rattle.host_worker.proofs.prepare.last_share.Goals as goal
 

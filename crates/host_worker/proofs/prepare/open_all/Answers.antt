@@ -1,7 +1,7 @@
 use Rattle.std.proofs.Common.{◌≡◌, ℕ, length, take, refl, subst, arith}
 use Rattle.std.proofs.lemmas.Option.{slice_get_read}
-use Rattle.host_frames.specs.Seats.{pool_id}
-use Rattle.host_worker.specs.Starts.{AreOpened}
+use Rattle.host_frames.specs.{pool_id}
+use Rattle.host_worker.specs.{AreOpened}
 use Rattle.host_worker.proofs.Opening.{count_more, opened_all, opened_more, opened_none}
 use Rattle.host_worker.proofs.prepare.open_all.Goals as goal
 

@@ -1,6 +1,6 @@
 use Rattle.std.proofs.Common.{◌≡◌, ◌≤◌, length, take, vec_capacity, vec_len}
-use Rattle.host_frames.specs.Seats.{pool_id}
-use Rattle.host_worker.specs.Starts.{AreOpened}
+use Rattle.host_frames.specs.{pool_id}
+use Rattle.host_worker.specs.{AreOpened}
 use Rattle.host_worker.proofs.prepare.open_all.Given as goal
 
 abbrev pub invariant-loop-k : goal.invariant-loop-k

@@ -1,5 +1,5 @@
 use Rattle.std.proofs.Common.{arith}
-use Rattle.host_frames.specs.Seats.{pool_id}
+use Rattle.host_frames.specs.{pool_id}
 use Rattle.host_worker.proofs.Opening.{all_there, opened_still, shares_of_clients}
 use Rattle.host_worker.proofs.prepare.prepare.Goals as goal
 

@@ -1,9 +1,7 @@
-use Rattle.std.proofs.Common.{ℕ, ◌≤◌, sym, subst, ◌∙◌, arith}
-use Rattle.host_worker.specs.declared.turned.Turn.{Turn}
-use Rattle.host_worker.specs.declared.turned.Turn.TheVariants.{Did}
-use Rattle.host_worker.specs.Turns.{IsRound}
+use Rattle.std.proofs.Common.{◌≡◌, ℕ, ◌≤◌, sym, ap, subst, ◌∙◌, arith}
+use Rattle.host_worker.specs.{Turn, Did, IsRound, things_in}
 use Rattle.host_worker.proofs.Closed.{has_worked_then}
-use Rattle.host_worker.proofs.Rounds.{did_wide, done_is, not_done, two_rounds}
+use Rattle.host_worker.proofs.Rounds.{did_wide, done_is, not_done, nothing_in, things_joined, two_rounds}
 use Rattle.host_worker.proofs.round.turn.Goals as goal
 
 pub returns-then-has_done-clause-answer : goal.returns-then-has_done-clause-answer
@@ -29,3 +27,16 @@ returns-clause-answer g c =
     first.result second.result (not_done first.result (sym c.has_done.ensures ∙ c.if-has_done.false)) first.ensures.answer second.ensures.answer in
     subst (λ (n : ℕ). IsRound 0 n c.args.hand.now second.new.hand c.joined.result) c.count_of-count.ensures
     (subst (λ (t : Turn). IsRound 0 count c.args.hand.now second.new.hand t) (sym c.joined.ensures) both)
+
+pub returns-then-has_done-clause-once : goal.returns-then-has_done-clause-once
+returns-then-has_done-clause-once g c =
+    let first = c.go_over-behind in
+    let did : things_in first.result ≡ 1 = ap things_in (done_is first.result (sym c.has_done.ensures ∙ c.if-has_done.true)) in
+    omega (arith, first.ensures.once, did)
+
+pub returns-clause-once : goal.returns-clause-once
+returns-clause-once g c =
+    let first = c.go_over-behind in
+    let second = c.go_over-before in
+    let undone = sym c.has_done.ensures ∙ c.if-has_done.false in
+    omega (arith, first.ensures.once, second.ensures.once, nothing_in first.result undone, ap things_in c.joined.ensures, things_joined first.result second.result undone)

@@ -3,15 +3,14 @@ use Rattle.std.proofs.lemmas.Bool.{eqb-true}
 use Rattle.std.proofs.lemmas.List.{length-map, length-reverse, length-set}
 use Rattle.std.proofs.lemmas.Option.{slice_get_read}
 use Rattle.std.specs.Prelude.{slice_get, slice_set}
-use Rattle.host_device.specs.Seen.{fixed_of, steps_of}
-use Rattle.host_frames.specs.Seats.{IsNewSeat, pool_id}
-use Rattle.host_model.specs.declared.step.Step.{Step}
-use Rattle.host_turn.specs.History.{entries_of}
-use Rattle.host_turn.specs.Seats.{AreNewSeats, book_id, opening_of}
-use Rattle.host_worker.specs.declared.room.ClosingRoom.{ClosingRoom}
-use Rattle.host_worker.specs.declared.session.Session.{Session}
-use Rattle.host_worker.specs.Hands.{IsClosingRoom}
-use Rattle.host_worker.proofs.Starting.{AreMade, fewer, fewer_len, fewer_shares, first_has_room, is_started, made_more, made_none, none_of, one_made}
+use Rattle.host_device.specs.{fixed_of, steps_of}
+use Rattle.host_frames.specs.{IsNewSeat, pool_id}
+use Rattle.host_model.specs.{Step}
+use Rattle.host_log.specs.{entries_of}
+use Rattle.host_turn.specs.{AreNewSeats, book_id, opening_of}
+use Rattle.host_worker.specs.{ClosingRoom, Session, IsClosingRoom}
+use Rattle.host_worker.proofs.Starting.{AreMade, fewer, fewer_len, fewer_shares, first_has_room, is_started, made_more, made_none, one_made}
+use Rattle.host_log.proofs.Places.{nil_of}
 use Rattle.host_worker.proofs.start.open_server.Goals as goal
 
 pub new-requires-clause-fresh : goal.new-requires-clause-fresh
@@ -75,8 +74,8 @@ returns g c =
     let all : length last.all.items ≡ c.args.hands = omega (arith, i.count, none, last.all.ok.0) in
     let room : ClosingRoom g.row.D.Denot g.D.Disk = record { device_seats = last.device_seats; pool_seats = last.pool_seats; ends = a.ends } in
     let is_room : IsClosingRoom (steps_of c.args.device).kept c.args.hands (length a.opened.sessions.items) room = record {
-      device_seats_fit = (none_of last.device_seats.items (sym last.device_seats.ok.0 ∙ none), i.room.1);
-      pool_seats_fit = (none_of last.pool_seats.items (sym last.pool_seats.ok.0 ∙ (i.pool_seats.0 ∙ none)), i.room.2);
+      device_seats_fit = (nil_of last.device_seats.items (sym last.device_seats.ok.0 ∙ none), i.room.1);
+      pool_seats_fit = (nil_of last.pool_seats.items (sym last.pool_seats.ok.0 ∙ (i.pool_seats.0 ∙ none)), i.room.2);
       ends_fit = (p.room.2, p.room.3 ∙ length-map a.opened.sessions.items (λ (s : Session). s.spec));
       ends_kept = p.room.4;
     } in

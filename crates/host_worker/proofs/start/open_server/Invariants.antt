@@ -1,8 +1,8 @@
 use Rattle.std.proofs.Common.{◌≡◌, ◌+◌, ◌≤◌, All, vec_capacity, vec_len}
-use Rattle.host_device.specs.Seen.{fixed_of, steps_of}
-use Rattle.host_frames.specs.Seats.{IsNewSeat, pool_id}
-use Rattle.host_turn.specs.Seats.{AreNewSeats, book_id, opening_of}
-use Rattle.host_worker.specs.Starts.{AreShares}
+use Rattle.host_device.specs.{fixed_of, steps_of}
+use Rattle.host_frames.specs.{IsNewSeat, pool_id}
+use Rattle.host_turn.specs.{AreNewSeats, book_id, opening_of}
+use Rattle.host_worker.specs.{AreShares}
 use Rattle.host_worker.proofs.Starting.{AreMade}
 use Rattle.host_worker.proofs.start.open_server.Given as goal
 

@@ -1,7 +1,6 @@
 use Rattle.std.proofs.Common.{◌<◌, length, arith, sym, subst}
-use Rattle.host_model.specs.Log.{received}
-use Rattle.host_session.specs.Endings.{owed_count}
-use Rattle.host_session.specs.Plan.{IsShared, SessionPlan}
+use Rattle.host_model.specs.{received}
+use Rattle.host_session.specs.{owed_count, IsShared, SessionPlan}
 use Rattle.host_worker.proofs.Receiving.{may_receive, plan_still, received_then, recv_received, recv_room}
 use Rattle.host_worker.proofs.wait.receive.Goals as goal
 

@@ -1,4 +1,4 @@
-use Rattle.host_worker.specs.Waits.{HasReceived, KeepsRoom}
+use Rattle.host_worker.specs.{HasReceived, KeepsRoom}
 use Rattle.host_worker.proofs.wait.receive.Given as goal
 
 abbrev pub invariant-loop : goal.invariant-loop

@@ -1,5 +1,5 @@
 use Rattle.std.proofs.Common.{ℕ, ◌≤◌, sym, subst}
-use Rattle.host_worker.specs.Servers.{IsSessionShared, session_count}
+use Rattle.host_worker.specs.{IsSessionShared, session_count}
 use Rattle.host_worker.proofs.Shared.{number_within, shares}
 use Rattle.host_worker.proofs.wait.session_of.Goals as goal
 

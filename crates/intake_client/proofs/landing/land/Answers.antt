@@ -1,5 +1,5 @@
 use Rattle.std.proofs.Common.{subst}
-use Rattle.intake_client.specs.Flights.{CanLand}
+use Rattle.intake_client.specs.{CanLand}
 use Rattle.intake_client.proofs.Flying.{can_fly}
 use Rattle.intake_client.proofs.Landings.{lone_owed}
 use Rattle.intake_client.proofs.landing.land.Goals as goal

@@ -1,5 +1,5 @@
 use Rattle.std.proofs.Common.{subst, sym}
-use Rattle.intake_client.specs.Flights.{Flies}
+use Rattle.intake_client.specs.{Flies}
 use Rattle.intake_client.proofs.Waited.{waiting_keeps, waiting_lands, waiting_made}
 use Rattle.intake_client.proofs.landing.land_waiting.Goals as goal
 

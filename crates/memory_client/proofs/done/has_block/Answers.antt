@@ -3,8 +3,8 @@ use Rattle.std.specs.List.{find}
 use Rattle.std.specs.Option.{option_map, option_map_or}
 use Rattle.std.proofs.lemmas.Iterator.{YieldsList-from_slice}
 use Rattle.std.proofs.lemmas.Iterator.Search.{find_from_yields_List}
-use Rattle.host_memory.specs.Held.{is_given_by}
-use Rattle.memory_client.specs.Played.{has_page}
+use Rattle.host_memory.specs.{is_given_by}
+use Rattle.memory_client.specs.{has_page}
 use Rattle.memory_client.proofs.Told.{block_found}
 use Rattle.memory_client.proofs.done.has_block.Goals as goal
 

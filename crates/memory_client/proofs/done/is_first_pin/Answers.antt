@@ -3,7 +3,7 @@ use Rattle.std.specs.List.{list_any}
 use Rattle.std.proofs.lemmas.Bool.{not-true}
 use Rattle.std.proofs.lemmas.Iterator.{YieldsList-from_slice}
 use Rattle.std.proofs.lemmas.Iterator.Search.{any_from_yields_List}
-use Rattle.host_memory.specs.Pins.{is_pin_for}
+use Rattle.host_memory.specs.{is_pin_for}
 use Rattle.host_memory.proofs.Attached.{uncounted}
 use Rattle.memory_client.proofs.done.is_first_pin.Goals as goal
 

@@ -3,7 +3,7 @@ use Rattle.std.specs.List.{list_any}
 use Rattle.std.proofs.lemmas.Bool.{not-true}
 use Rattle.std.proofs.lemmas.Iterator.{YieldsList-from_slice}
 use Rattle.std.proofs.lemmas.Iterator.Search.{any_from_yields_List}
-use Rattle.host_model.specs.Releases.{is_close_of}
+use Rattle.host_model.specs.{is_close_of}
 use Rattle.memory_client.proofs.Told.{open_closer}
 use Rattle.memory_client.proofs.done.is_open.Goals as goal
 

@@ -1,5 +1,5 @@
 use Rattle.std.proofs.Common.{◌≡◌}
-use Rattle.host_frames.specs.Seats.{seat_pool}
+use Rattle.host_frames.specs.{seat_pool}
 use Rattle.memory_client.proofs.player.drop_all.Given as goal
 
 abbrev pub invariant-loop-dropped : goal.invariant-loop-dropped

@@ -1,5 +1,5 @@
 use Rattle.std.proofs.Common.{◌≡◌}
-use Rattle.host_frames.specs.Seats.{seat_pool}
+use Rattle.host_frames.specs.{seat_pool}
 use Rattle.memory_client.proofs.random_calls.play_on.Given as goal
 
 abbrev pub invariant-loop : goal.invariant-loop

@@ -1,5 +1,5 @@
 use Rattle.std.proofs.Common.{true}
-use Rattle.host_start.specs.Copies.{image_in}
+use Rattle.host_start.specs.{image_in}
 use Rattle.play_client.proofs.Beginning.{as_many}
 use Rattle.play_client.proofs.begun.begin.Goals as goal
 

@@ -1,5 +1,5 @@
 use Rattle.std.proofs.Common.{sym, ◌∙◌}
-use Rattle.script_model.specs.Plans.{plans_of}
+use Rattle.script_model.specs.{plans_of}
 use Rattle.play_client.proofs.Beginning.{fit}
 use Rattle.play_client.proofs.begun.read_text.Goals as goal
 

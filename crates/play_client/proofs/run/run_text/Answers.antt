@@ -1,5 +1,5 @@
 use Rattle.std.proofs.Common.{◌∙◌, ap, map}
-use Rattle.host_start.specs.declared.places.Place.{Place}
+use Rattle.host_start.specs.{Place}
 use Rattle.play_client.proofs.Beginning.{inside}
 use Rattle.play_client.proofs.run.run_text.Goals as goal
 

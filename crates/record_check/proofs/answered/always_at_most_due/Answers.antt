@@ -1,5 +1,5 @@
 use Rattle.std.proofs.Common.{arith}
-use Rattle.host_model.specs.Answers.{is_answered_at_most}
+use Rattle.host_model.specs.{is_answered_at_most}
 use Rattle.record_check.proofs.AnsweredLemmas.{prefixes_end}
 use Rattle.record_check.proofs.answered.always_at_most_due.Goals as goal
 

@@ -1,9 +1,6 @@
 use Rattle.std.proofs.Common.{ap, filter, length, map, nat_lt, ◌∙◌}
 use Rattle.std.specs.Str.{bytes_eq}
-use Rattle.host_model.specs.Answers.{answer_bytes}
-use Rattle.host_model.specs.Groups.{owed}
-use Rattle.host_model.specs.Lists.{within_counts}
-use Rattle.host_model.specs.Log.{received}
+use Rattle.host_model.specs.{answer_bytes, owed, within_counts, received}
 use Rattle.record_check.proofs.answered.at_most_due.Goals as goal
 
 pub returns : goal.returns

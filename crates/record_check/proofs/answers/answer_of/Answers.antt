@@ -1,7 +1,6 @@
 use Rattle.std.proofs.Common.{ap, length, map, ◌∙◌}
 use Rattle.record_check.proofs.AnswerLemmas.{answer_is}
-use Rattle.host_model.specs.Answers.{first_failure}
-use Rattle.host_model.specs.Taking.{row_at}
+use Rattle.host_model.specs.{first_failure, row_at}
 use Rattle.record_check.proofs.answers.answer_of.Goals as goal
 
 pub returns : goal.returns

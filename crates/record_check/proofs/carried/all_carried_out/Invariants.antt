@@ -1,5 +1,5 @@
 use Rattle.std.proofs.Common.{ℕ, ◌↔◌, ◌<◌, IsTrue}
-use Rattle.record_check.specs.Carried.{IsCarriedBy}
+use Rattle.record_check.specs.{IsCarriedBy}
 use Rattle.record_check.proofs.carried.all_carried_out.Given as goal
 
 abbrev pub invariant-loop-i : goal.invariant-loop-i

@@ -1,4 +1,4 @@
-use Rattle.record_check.specs.Session.{session_with}
+use Rattle.record_check.specs.{session_with}
 use Rattle.record_check.proofs.SessionLemmas.{answered_is}
 use Rattle.record_check.proofs.session.is_answered.Goals as goal
 

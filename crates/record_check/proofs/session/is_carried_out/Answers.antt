@@ -1,6 +1,5 @@
 use Rattle.std.proofs.Common.{ℕ, ◌↔◌, ◌<◌, IsTrue, length, subst, ◌∙◌}
-use Rattle.record_check.specs.Carried.{IsCarriedBy}
-use Rattle.record_check.specs.Session.{session_with}
+use Rattle.record_check.specs.{IsCarriedBy, session_with}
 use Rattle.record_check.proofs.SessionLemmas.{carried_is}
 use Rattle.record_check.proofs.session.is_carried_out.Goals as goal
 

@@ -1,4 +1,4 @@
-use Rattle.host_model.specs.Taking.{runs_out_rightly}
+use Rattle.host_model.specs.{runs_out_rightly}
 use Rattle.record_check.proofs.BeforeLemmas.{before_step}
 use Rattle.record_check.proofs.taking.all_lack_ids_rightly.Goals as goal
 

@@ -1,6 +1,5 @@
 use Rattle.std.proofs.Common.{◌≡◌, take}
-use Rattle.host_model.specs.Lists.{all_with_before}
-use Rattle.host_model.specs.Taking.{runs_out_rightly}
+use Rattle.host_model.specs.{all_with_before, runs_out_rightly}
 use Rattle.record_check.proofs.taking.all_lack_ids_rightly.Given as goal
 
 abbrev pub invariant-loop-i : goal.invariant-loop-i

@@ -1,6 +1,5 @@
 use Rattle.std.proofs.Common.{None, ap, cond, ◌∙◌}
-use Rattle.host_model.specs.Log.{given_before}
-use Rattle.host_model.specs.Verdict.{is_closed, judged}
+use Rattle.host_model.specs.{given_before, is_closed, judged}
 use Rattle.record_check.proofs.verdicts.verdict_next.Goals as goal
 
 pub returns : goal.returns

@@ -1,6 +1,5 @@
 use Rattle.std.proofs.Common.{◌≡◌}
-use Rattle.host_model.specs.Log.{given_before}
-use Rattle.host_model.specs.Verdict.{verdicts_on}
+use Rattle.host_model.specs.{given_before, verdicts_on}
 use Rattle.record_check.proofs.verdicts.verdicts_of.Given as goal
 
 abbrev pub invariant-loop-i : goal.invariant-loop-i

@@ -1,4 +1,4 @@
-use Rattle.script_model.specs.Generate.{generated}
+use Rattle.script_model.specs.{generated}
 use Rattle.script_model.proofs.PrintedScript as printed
 use Rattle.script_model.proofs.SaidScript.{generated_fits}
 use Rattle.script_model.proofs.laws.generated_again.Goals as goal

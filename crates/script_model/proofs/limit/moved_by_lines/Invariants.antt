@@ -1,6 +1,6 @@
 use Rattle.std.proofs.Common.{◌≡◌, ◌≤◌, ◌*◌, take}
 use Rattle.std.specs.List.{sum_by}
-use Rattle.script_model.specs.Limit.{moved_by}
+use Rattle.script_model.specs.{moved_by}
 use Rattle.script_model.proofs.limit.moved_by_lines.Given as goal
 
 abbrev pub invariant-loop-line : goal.invariant-loop-line

@@ -1,6 +1,6 @@
 use Rattle.std.proofs.Common.{◌≡◌, ◌≤◌, ◌*◌, take}
 use Rattle.std.specs.List.{sum_by}
-use Rattle.script_model.specs.Limit.{moved_by_lines}
+use Rattle.script_model.specs.{moved_by_lines}
 use Rattle.script_model.proofs.limit.moved_in_all.Given as goal
 
 abbrev pub invariant-loop-session : goal.invariant-loop-session

@@ -1,5 +1,5 @@
 use Rattle.std.proofs.Common.{◌≤◌, ℕ, length, subst, ◌∙◌}
-use Rattle.host_model.specs.Log.{received}
+use Rattle.host_model.specs.{received}
 use Rattle.host_play.proofs.LineSteps.{send_done, wait_all_done}
 use Rattle.host_play.proofs.PlayedLines.{helped_then}
 use Rattle.host_worker.proofs.Shared.{client_still}

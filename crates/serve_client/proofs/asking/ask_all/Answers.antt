@@ -1,5 +1,5 @@
 use Rattle.std.proofs.Common.{◌<◌, ℕ, length, refl, sym, ap, subst, ◌∙◌}
-use Rattle.host_model.specs.Log.{sent}
+use Rattle.host_model.specs.{sent}
 use Rattle.host_play.proofs.PlayedLines.{helped_none, helped_then}
 use Rattle.host_worker.proofs.Shared.{client_still}
 use Rattle.serve_client.proofs.asking.ask_all.Goals as goal

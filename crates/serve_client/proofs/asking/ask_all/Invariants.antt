@@ -1,6 +1,6 @@
 use Rattle.std.proofs.Common.{◌≡◌}
-use Rattle.host_worker.specs.Waits.{MayWait}
-use Rattle.host_play.specs.Calls.{HasHelped}
+use Rattle.host_worker.specs.{MayWait}
+use Rattle.host_play.specs.{HasHelped}
 use Rattle.serve_client.proofs.asking.ask_all.Given as goal
 
 abbrev pub invariant-loop-n : goal.invariant-loop-n

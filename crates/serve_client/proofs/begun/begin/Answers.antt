@@ -1,8 +1,8 @@
 use Rattle.std.proofs.Common.{◌≡◌, ◌∷◌, [], ◌+◌, ◌^◌, ◌<◌, ◌≤◌, Bool, List, length, sym, ap, subst, ◌∙◌, arith, rules}
-use Rattle.host_device.specs.Seen.{shape_of, steps_of}
-use Rattle.host_session.specs.declared.spec.SessionSpec.{SessionSpec}
-use Rattle.host_worker.specs.Starts.{AreSpecs, IsStarted}
-use Rattle.serve_client.specs.Begun.{spec_for}
+use Rattle.host_device.specs.{shape_of, steps_of}
+use Rattle.host_session.specs.{SessionSpec}
+use Rattle.host_worker.specs.{AreSpecs, IsStarted}
+use Rattle.serve_client.specs.{spec_for}
 use Rattle.serve_client.proofs.Beginning.{begun_over, one_spec}
 use Rattle.serve_client.proofs.begun.begin.Goals as goal
 

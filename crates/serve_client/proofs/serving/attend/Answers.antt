@@ -1,13 +1,9 @@
 use Rattle.std.proofs.Common.{◌≡◌, ◌++◌, ◌∷◌, [], List, length, map, refl, sym, ap, subst, ◌∙◌, append_assoc}
-use Rattle.host_model.specs.declared.event.Event.TheVariants.{Drained}
-use Rattle.host_session.specs.Client.{ClientState}
-use Rattle.host_worker.specs.Accounts.{AreAccounted}
-use Rattle.host_worker.specs.Ends.{AreEnded, hand_end}
-use Rattle.host_worker.specs.Finishes.{AreClosed, AreHands}
-use Rattle.host_worker.specs.Waits.{received_events}
-use Rattle.host_worker.specs.declared.hand.Hand.{Hand}
+use Rattle.host_model.specs.{Drained}
+use Rattle.host_session.specs.{ClientState}
+use Rattle.host_worker.specs.{AreAccounted, AreEnded, hand_end, AreClosed, AreHands, received_events, Hand}
 use Rattle.host_worker.proofs.Shared.{client_still}
-use Rattle.host_play.specs.Calls.{IsSquare}
+use Rattle.host_play.specs.{IsSquare}
 use Rattle.host_play.proofs.Accounts.{square_ended}
 use Rattle.host_play.proofs.Parts.{square_new}
 use Rattle.host_play.proofs.Quiet.{silent_drain}

@@ -1,6 +1,5 @@
 use Rattle.std.proofs.Common.{◌≡◌, Bool, ◌&&◌, sym, ap, ap₂, subst, ◌∙◌, append-nil}
-use Rattle.host_device.specs.declared.fixed.DeviceFixed.{DeviceFixed}
-use Rattle.host_device.specs.Seen.{fixed_of, steps_of}
+use Rattle.host_device.specs.{DeviceFixed, fixed_of, steps_of}
 use Rattle.serve_client.proofs.Outcomes.{all_sent, and_same, faults_shown, keeps_image}
 use Rattle.serve_client.proofs.serving.serve.Goals as goal
 

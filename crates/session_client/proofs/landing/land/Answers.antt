@@ -1,11 +1,9 @@
 use Rattle.std.proofs.Common.{◌≡◌, ap, subst, ◌∙◌}
-use Rattle.host_group.specs.Seats.{cells_id}
-use Rattle.host_intake.specs.declared.plan.IntakePlan.{IntakePlan}
-use Rattle.host_intake.specs.State.{plan_of}
+use Rattle.host_group.specs.{cells_id}
+use Rattle.host_intake.specs.{IntakePlan, plan_of_intake, answer_owed}
 use Rattle.host_record.specs.declared.request.Request.{Request}
-use Rattle.host_intake.specs.Answers.{answer_owed}
-use Rattle.host_turn.specs.Seats.{book_id, fixed_part, number, seen_by}
-use Rattle.session_client.specs.RightUsed.{HaveSettled}
+use Rattle.host_turn.specs.{book_id, fixed_part, number, seen_by}
+use Rattle.session_client.specs.{HaveSettled}
 use Rattle.session_client.proofs.FixedParts.{plan_entered}
 use Rattle.session_client.proofs.Ending.{flies, is_its_lander, none_waits, settled_answer, settled_right}
 use Rattle.session_client.proofs.Tasks.{entered_to_do}
@@ -22,7 +20,7 @@ landed-requires-clause-waits g c =
     let e = c.enter-intake.ensures in
     let d = entered_to_do (cells_id c.args.shared.now.cells) c.args.number (number c.args.hand.now.intake) (seen_by c.args.hand.now.intake) (seen_by c.enter-intake.new.seat) c.enter-intake.result.entries c.requires.hand.number_is e.later e.story c.args.task c.requires.task in
     none_waits (cells_id c.args.shared.now.cells) c.args.number c.enter-intake.result c.vouch.ensures c.args.task d
-    (plan_entered (λ (p : IntakePlan). (p.memory ≡ book_id c.args.shared.now.memory) × (p.cells ≡ cells_id c.args.shared.now.cells)) (fixed_part c.args.hand.now.intake) (fixed_part c.enter-intake.new.seat) (plan_of c.enter-intake.result) c.requires.hand.plan e.seat.0.3 e.fixed_part).1
+    (plan_entered (λ (p : IntakePlan). (p.memory ≡ book_id c.args.shared.now.memory) × (p.cells ≡ cells_id c.args.shared.now.cells)) (fixed_part c.args.hand.now.intake) (fixed_part c.enter-intake.new.seat) (plan_of_intake c.enter-intake.result) c.requires.hand.plan e.seat.0.3 e.fixed_part).1
 
 pub landed-requires-clause-hand : goal.landed-requires-clause-hand
 landed-requires-clause-hand g c =

@@ -1,8 +1,7 @@
 use Rattle.std.proofs.Common.{◌++◌, Option, sym, ap, ◌∙◌}
 use Rattle.std.specs.Prelude.{option_to_list}
-use Rattle.host_frames.specs.declared.seat.PoolSeat.{PoolSeat}
-use Rattle.host_frames.specs.Seats.{pool_id}
-use Rattle.host_session.specs.declared.hand.SessionHand.{SessionHand}
+use Rattle.host_frames.specs.{PoolSeat, pool_id}
+use Rattle.host_session.specs.{SessionHand}
 use Rattle.session_client.proofs.TakenOut.{only_hand, two_seats}
 use Rattle.session_client.proofs.opening.open_desk.Goals as goal
 

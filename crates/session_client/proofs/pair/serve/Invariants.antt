@@ -1,6 +1,6 @@
 use Rattle.std.proofs.Common.{◌≡◌}
-use Rattle.host_frames.specs.Seats.{pool_id, seat_pool}
-use Rattle.session_client.specs.Hands.{IsHandAt, IsSameHand}
+use Rattle.host_frames.specs.{pool_id, seat_pool}
+use Rattle.session_client.specs.{IsHandAt, IsSameHand}
 use Rattle.session_client.proofs.pair.serve.Given as goal
 
 abbrev pub invariant-loop : goal.invariant-loop

@@ -1,5 +1,5 @@
 use Rattle.std.proofs.Common.{◌≡◌}
-use Rattle.host_session.specs.Plan.{IsShared}
+use Rattle.host_session.specs.{IsShared}
 use Rattle.session_client.proofs.playing.await_answers.Given as goal
 
 abbrev pub invariant-loop : goal.invariant-loop

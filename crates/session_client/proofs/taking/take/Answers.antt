@@ -1,8 +1,8 @@
 use Rattle.std.proofs.Common.{List, sym, subst}
-use Rattle.host_group.specs.Seats.{cells_id}
-use Rattle.host_intake.specs.declared.entry.IntakeEntry.{IntakeEntry}
-use Rattle.host_turn.specs.Seats.{number, seen_by}
-use Rattle.session_client.specs.Tasks.{IsToDo}
+use Rattle.host_group.specs.{cells_id}
+use Rattle.host_intake.specs.{IntakeEntry}
+use Rattle.host_turn.specs.{number, seen_by}
+use Rattle.session_client.specs.{IsToDo}
 use Rattle.session_client.proofs.Tasks.{after_taking, entered_to_do}
 use Rattle.session_client.proofs.taking.take.Goals as goal
 

@@ -1,7 +1,6 @@
 use Rattle.std.proofs.Common.{sym, subst}
-use Rattle.host_group.specs.Seats.{cells_id}
-use Rattle.session_client.specs.declared.task.Taken.{Taken}
-use Rattle.session_client.specs.Tasks.{IsTakenToDo}
+use Rattle.host_group.specs.{cells_id}
+use Rattle.session_client.specs.{Taken, IsTakenToDo}
 use Rattle.session_client.proofs.Tasks.{landings_taken}
 use Rattle.session_client.proofs.ToDo.{admitted_to_do, refused_stays, to_do}
 use Rattle.session_client.proofs.taking.take_in_turn.Goals as goal

@@ -1,9 +1,6 @@
 use Rattle.std.proofs.Common.{◌≡◌, refl, sym, ◌∙◌, ap, subst}
-use Rattle.host_io.specs.Disks.{Shape}
-use Rattle.host_cache.specs.Held.{line_at, cached}
-use Rattle.host_cache.specs.Calls.{clean_lines, write_calls, dirty_at}
-use Rattle.host_cache.specs.Kept.{IsKept, AreClean}
-use Rattle.host_cache.specs.Outcomes.{outcome_of}
+use Rattle.host_io.specs.{Shape}
+use Rattle.host_cache.specs.{line_at, cached, clean_lines, write_calls, dirty_at, IsCacheKept, AreClean, cache_outcome}
 use Rattle.host_cache.proofs.EntryLemmas.{Entries}
 use Rattle.host_cache.proofs.StepLemmas.{holding}
 use Rattle.host_cache.proofs.ListLemmas.{kept_clean_lines, clean_clean_lines, content_clean_lines}
@@ -14,7 +11,7 @@ pub invariant_of-self : goal.invariant_of-self
 invariant_of-self g c =
     let D = g.D.Disk in
     let d = c.args.self.now in
-    let o = outcome_of c.clean_entry.result in
+    let o = cache_outcome c.clean_entry.result in
     let made = c.clean_entry.ensures.made in
     let calls = write_calls o (dirty_at c.args.b (line_at d.lines.entries c.args.b)) in
     let new = c.clean_entry.new.disk in
@@ -24,7 +21,7 @@ invariant_of-self g c =
       in_word = d.in_word;
       same_blocks = d.same_blocks ∙ ap (λ (sh : Shape). sh.blocks) (sym made.shape);
       same_size = d.same_size ∙ ap (λ (sh : Shape). sh.size) (sym made.shape);
-      kept = subst (λ (l : Entries). IsKept (D.shape new).blocks (D.shape new).size (holding l d.victim)) (sym is)
+      kept = subst (λ (l : Entries). IsCacheKept (D.shape new).blocks (D.shape new).size (holding l d.victim)) (sym is)
           (kept_on (D.shape d.disk) (D.shape new) (holding (clean_lines o c.args.b d.lines.entries) d.victim) made.shape
           (kept_clean_lines o (D.shape d.disk).blocks (D.shape d.disk).size c.args.b d.lines.entries d.victim d.kept));
       clean = λ told.
@@ -37,7 +34,7 @@ pub returns-clause-calls : goal.returns-clause-calls
 returns-clause-calls g c =
     let d = c.args.self.now in
     record {
-      calls = write_calls (outcome_of c.clean_entry.result) (dirty_at c.args.b (line_at d.lines.entries c.args.b));
+      calls = write_calls (cache_outcome c.clean_entry.result) (dirty_at c.args.b (line_at d.lines.entries c.args.b));
       ruled = record { calls_are = refl; leaves = ap (λ l. holding l.entries d.victim) c.clean_entry.ensures.lines };
       made = c.clean_entry.ensures.made;
     }
@@ -47,7 +44,7 @@ returns-clause-content g c told k below =
     let D = g.D.Disk in
     let d = c.args.self.now in
     ap (λ l. cached (holding l.entries d.victim) (D.state c.clean_entry.new.disk) k) c.clean_entry.ensures.lines
-    ∙ content_clean_lines (outcome_of c.clean_entry.result) (D.state d.disk) (D.state c.clean_entry.new.disk) d.lines.entries d.victim c.args.b c.requires (c.clean_entry.ensures.made.state told) k
+    ∙ content_clean_lines (cache_outcome c.clean_entry.result) (D.state d.disk) (D.state c.clean_entry.new.disk) d.lines.entries d.victim c.args.b c.requires (c.clean_entry.ensures.made.state told) k
 
 pub clean_entry-requires-clause-fits : goal.clean_entry-requires-clause-fits
 clean_entry-requires-clause-fits g c line at = c.args.self.now.kept.lines c.args.b line at

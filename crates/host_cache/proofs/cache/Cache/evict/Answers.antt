@@ -1,8 +1,6 @@
 use Rattle.std.proofs.Common.{◌≡◌, length, sym, ◌∙◌, ap, subst, arith}
-use Rattle.host_cache.specs.Held.{Held, cached}
-use Rattle.host_cache.specs.Calls.{with_room}
-use Rattle.host_cache.specs.Kept.{IsKept, AreClean}
-use Rattle.host_cache.specs.Seen.{held_of}
+use Rattle.host_cache.specs.Held.{Held}
+use Rattle.host_cache.specs.{cached, with_room, IsCacheKept, AreClean, held_of}
 use Rattle.host_cache.specs.declared.line.TheConstants.{ENTRIES}
 use Rattle.host_cache.proofs.StepLemmas.{holding, room_full, kept_room, clean_room, content_room}
 use Rattle.host_cache.proofs.cache.Cache.evict.Goals as goal
@@ -18,7 +16,7 @@ invariant_of-self g c =
       in_word = d.in_word;
       same_blocks = d.same_blocks;
       same_size = d.same_size;
-      kept = subst (λ (h : Held). IsKept (D.shape d.disk).blocks (D.shape d.disk).size h) (sym is) (kept_room (D.shape d.disk).blocks (D.shape d.disk).size (held_of d) d.kept);
+      kept = subst (λ (h : Held). IsCacheKept (D.shape d.disk).blocks (D.shape d.disk).size h) (sym is) (kept_room (D.shape d.disk).blocks (D.shape d.disk).size (held_of d) d.kept);
       clean = λ told. subst (λ (h : Held). AreClean (D.state d.disk) h.lines) (sym is) (clean_room (D.shape d.disk).blocks (D.shape d.disk).size (D.state d.disk) (held_of d) d.kept (d.clean told));
     }
 

@@ -1,4 +1,4 @@
-use Rattle.host_cache.specs.Calls.{ReadsDisk, PutsInFront, clean_line}
+use Rattle.host_cache.specs.{ReadsDisk, PutsInFront, clean_line}
 use Rattle.host_cache.proofs.MadeLemmas.{runs_early}
 use Rattle.host_cache.proofs.RunLemmas.{read_same_content}
 use Rattle.host_cache.proofs.cache.Cache.fetch.Goals as goal

@@ -1,6 +1,6 @@
 use Rattle.std.proofs.Common.{IsTrue, sym, ◌∙◌, ap, subst}
-use Rattle.host_cache.specs.Held.{Held, line_at}
-use Rattle.host_cache.specs.Outcomes.{outcome_of}
+use Rattle.host_cache.specs.Held.{Held}
+use Rattle.host_cache.specs.{line_at, cache_outcome}
 use Rattle.host_cache.proofs.RunLemmas.{same_as, faulted_as, runs_found, found_bytes, runs_missed, missed, on_ok_map}
 use Rattle.host_cache.proofs.cache.Cache.give.Goals as goal
 
@@ -23,7 +23,7 @@ load-requires-clause-absent g c =
 
 pub returns-clause-calls : goal.returns-clause-calls
 returns-clause-calls g c =
-    runs_missed c.args.b c.recall.new.into c.load.new.into c.recall.result (outcome_of c.load.result) c.args.self.now c.recall.new.self c.load.new.self c.if-recall.false c.recall.ensures.found c.recall.ensures.disk
+    runs_missed c.args.b c.recall.new.into c.load.new.into c.recall.result (cache_outcome c.load.result) c.args.self.now c.recall.new.self c.load.new.self c.if-recall.false c.recall.ensures.found c.recall.ensures.disk
     c.load.ensures.calls
 
 pub returns-clause-fault : goal.returns-clause-fault

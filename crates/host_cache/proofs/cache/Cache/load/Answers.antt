@@ -1,8 +1,7 @@
 use Rattle.std.proofs.Common.{IsTrue, sym, ◌∙◌, subst}
-use Rattle.host_block.specs.Disk.{done}
-use Rattle.host_io.specs.Disks.{Shape}
-use Rattle.host_cache.specs.Calls.{MakesRoom, Then, ReadsDisk, PutsInFront, clean_line}
-use Rattle.host_cache.specs.Outcomes.{outcome_of}
+use Rattle.host_block.specs.{done}
+use Rattle.host_io.specs.{Shape}
+use Rattle.host_cache.specs.{MakesRoom, Then, ReadsDisk, PutsInFront, clean_line, cache_outcome}
 use Rattle.host_cache.proofs.MadeLemmas.{runs_then, runs_early}
 use Rattle.host_cache.proofs.RunLemmas.{same_then, faulted_then, absent_after, on_ok_map}
 use Rattle.host_cache.proofs.cache.Cache.load.Goals as goal
@@ -16,7 +15,7 @@ returns-in-Err-clause-calls g c =
 
 pub returns-clause-calls : goal.returns-clause-calls
 returns-clause-calls g c =
-    runs_then MakesRoom (Then (ReadsDisk c.args.b) (PutsInFront c.args.b (clean_line c.fetch.new.into))) (outcome_of c.fetch.result) c.args.self.now c.make_room.new.self c.fetch.new.self
+    runs_then MakesRoom (Then (ReadsDisk c.args.b) (PutsInFront c.args.b (clean_line c.fetch.new.into))) (cache_outcome c.fetch.result) c.args.self.now c.make_room.new.self c.fetch.new.self
     c.in-Ok.ensures.calls c.fetch.ensures.calls
 
 pub returns-clause-fault : goal.returns-clause-fault

@@ -1,7 +1,6 @@
 use Rattle.std.proofs.Common.{inl, inr, sym, ◌∙◌}
-use Rattle.host_block.specs.Disk.{done}
-use Rattle.host_cache.specs.Calls.{WritesVictim, MakesRoomFor}
-use Rattle.host_cache.specs.Outcomes.{outcome_of}
+use Rattle.host_block.specs.{done}
+use Rattle.host_cache.specs.{WritesVictim, MakesRoomFor, cache_outcome}
 use Rattle.host_cache.proofs.ListLemmas.{on_ok}
 use Rattle.host_cache.proofs.MadeLemmas.{runs_then, runs_early}
 use Rattle.host_cache.proofs.RunLemmas.{same_then, faulted_then, runs_idle, runs_room_for, there_at}
@@ -23,7 +22,7 @@ returns-then-contains-clause-room g c = inl (there_at c.args.b c.write_victim.ne
 pub returns-clause-calls : goal.returns-clause-calls
 returns-clause-calls g c =
     let mid = c.write_victim.new.self in
-    let o = outcome_of c.make_room.result in
+    let o = cache_outcome c.make_room.result in
     runs_then WritesVictim (MakesRoomFor c.args.b) o c.args.self.now mid c.make_room.new.self c.in-Ok.ensures.calls
     (runs_room_for c.args.b o mid c.make_room.new.self (sym c.contains.ensures ∙ c.if-contains.false) c.make_room.ensures.calls)
 

@@ -1,10 +1,6 @@
 use Rattle.std.proofs.Common.{◌≡◌, [], refl, sym, ◌∙◌, ap, subst}
-use Rattle.host_block.specs.Disk.{Outcome}
-use Rattle.host_cache.specs.Held.{cached}
-use Rattle.host_cache.specs.Calls.{put_lines}
-use Rattle.host_cache.specs.Kept.{IsKept, AreClean}
-use Rattle.host_cache.specs.Outcomes.{outcome_of}
-use Rattle.host_cache.specs.Seen.{held_of}
+use Rattle.host_block.specs.{Outcome}
+use Rattle.host_cache.specs.{cached, put_lines, IsCacheKept, AreClean, cache_outcome, held_of}
 use Rattle.host_cache.proofs.EntryLemmas.{Entries}
 use Rattle.host_cache.proofs.StepLemmas.{holding, content_put}
 use Rattle.host_cache.proofs.ListLemmas.{kept_put_lines, clean_put_lines, put_error, not_failed, on_ok, on_err}
@@ -15,14 +11,14 @@ pub invariant_of-self : goal.invariant_of-self
 invariant_of-self g c =
     let D = g.D.Disk in
     let d = c.args.self.now in
-    let o = outcome_of c.put_entry.result in
+    let o = cache_outcome c.put_entry.result in
     let is : c.put_entry.new.lines.entries ≡ put_lines o c.args.b c.args.line d.lines.entries = ap (λ l. l.entries) c.put_entry.ensures.lines in
     record {
       cap = ap (λ l. l.cap) c.put_entry.ensures.lines ∙ d.cap;
       in_word = d.in_word;
       same_blocks = d.same_blocks;
       same_size = d.same_size;
-      kept = subst (λ (l : Entries). IsKept (D.shape d.disk).blocks (D.shape d.disk).size (holding l d.victim)) (sym is)
+      kept = subst (λ (l : Entries). IsCacheKept (D.shape d.disk).blocks (D.shape d.disk).size (holding l d.victim)) (sym is)
           (kept_put_lines o (D.shape d.disk).blocks (D.shape d.disk).size c.args.b c.args.line (held_of d) d.kept c.requires.victim (c.requires.block, c.requires.piece) c.requires.room);
       clean = λ told. subst (λ (l : Entries). AreClean (D.state d.disk) l) (sym is) (clean_put_lines o (D.state d.disk) c.args.b c.args.line d.lines.entries (c.requires.clean told) (d.clean told));
     }

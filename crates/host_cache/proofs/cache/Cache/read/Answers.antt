@@ -1,8 +1,7 @@
 use Rattle.std.proofs.Common.{IsTrue, sym, ◌∙◌, subst}
-use Rattle.host_block.specs.Disk.{done}
-use Rattle.host_io.specs.Disks.{Shape}
-use Rattle.host_cache.specs.Calls.{WritesVictim, Gives}
-use Rattle.host_cache.specs.Outcomes.{outcome_of}
+use Rattle.host_block.specs.{done}
+use Rattle.host_io.specs.{Shape}
+use Rattle.host_cache.specs.{WritesVictim, Gives, cache_outcome}
 use Rattle.host_cache.proofs.MadeLemmas.{runs_then, runs_early}
 use Rattle.host_cache.proofs.RunLemmas.{same_then, faulted_then, on_ok_map}
 use Rattle.host_cache.proofs.cache.Cache.read.Goals as goal
@@ -12,7 +11,7 @@ returns-in-Err-clause-calls g c = runs_early WritesVictim (Gives c.args.b c.args
 
 pub returns-clause-calls : goal.returns-clause-calls
 returns-clause-calls g c =
-    runs_then WritesVictim (Gives c.args.b c.give.new.into) (outcome_of c.give.result) c.args.self.now c.write_victim.new.self c.give.new.self c.in-Ok.ensures.calls c.give.ensures.calls
+    runs_then WritesVictim (Gives c.args.b c.give.new.into) (cache_outcome c.give.result) c.args.self.now c.write_victim.new.self c.give.new.self c.in-Ok.ensures.calls c.give.ensures.calls
 
 pub returns-clause-fault : goal.returns-clause-fault
 returns-clause-fault g c is = faulted_then WritesVictim done c.args.self.now c.write_victim.new.self c.give.new.self c.in-Ok.ensures.calls (c.give.ensures.fault is)

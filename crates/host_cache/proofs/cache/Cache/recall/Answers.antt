@@ -1,9 +1,7 @@
 use Rattle.std.proofs.Common.{◌≡◌, true, false, [], MatchOption, nat_eq, sym, ◌∙◌, ap, subst}
-use Rattle.host_cache.specs.Held.{Held, line_at, cached}
-use Rattle.host_block.specs.Disk.{done}
-use Rattle.host_cache.specs.Calls.{Finds}
-use Rattle.host_cache.specs.Kept.{IsKept, AreClean}
-use Rattle.host_cache.specs.Seen.{held_of}
+use Rattle.host_cache.specs.Held.{Held}
+use Rattle.host_cache.specs.{line_at, cached, Finds, IsCacheKept, AreClean, held_of}
+use Rattle.host_block.specs.{done}
 use Rattle.lru.specs.LruCache.{promoted}
 use Rattle.host_cache.proofs.EntryLemmas.{Entries}
 use Rattle.host_cache.proofs.StepLemmas.{holding}
@@ -20,7 +18,7 @@ invariant_of-self g c =
       in_word = d.in_word;
       same_blocks = d.same_blocks;
       same_size = d.same_size;
-      kept = subst (λ (l : Entries). IsKept (D.shape d.disk).blocks (D.shape d.disk).size (holding l d.victim)) (sym is)
+      kept = subst (λ (l : Entries). IsCacheKept (D.shape d.disk).blocks (D.shape d.disk).size (holding l d.victim)) (sym is)
           (kept_promoted (D.shape d.disk).blocks (D.shape d.disk).size c.args.b (held_of d) d.kept c.requires.victim);
       clean = λ told. subst (λ (l : Entries). AreClean (D.state d.disk) l) (sym is) (clean_promoted (D.state d.disk) c.args.b d.lines.entries (d.clean told));
     }

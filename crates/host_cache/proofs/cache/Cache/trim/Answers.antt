@@ -1,6 +1,5 @@
-use Rattle.host_cache.specs.Calls.{Prepares, PutsInFront, dirty_line}
+use Rattle.host_cache.specs.{Prepares, PutsInFront, dirty_line, shape_of}
 use Rattle.std.specs.Prelude.{replicate}
-use Rattle.host_cache.specs.Seen.{shape_of}
 use Rattle.host_cache.proofs.MadeLemmas.{runs_early}
 use Rattle.host_cache.proofs.cache.Cache.trim.Goals as goal
 

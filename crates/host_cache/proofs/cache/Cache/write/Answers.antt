@@ -1,4 +1,4 @@
-use Rattle.host_cache.specs.Calls.{Prepares, PutsInFront, dirty_line}
+use Rattle.host_cache.specs.{Prepares, PutsInFront, dirty_line}
 use Rattle.host_cache.proofs.MadeLemmas.{runs_early}
 use Rattle.host_cache.proofs.cache.Cache.write.Goals as goal
 

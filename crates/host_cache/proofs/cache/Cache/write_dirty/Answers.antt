@@ -1,5 +1,5 @@
 use Rattle.std.proofs.Common.{refl, sym, ◌∙◌, ap, arith}
-use Rattle.host_io.specs.Disks.{Shape}
+use Rattle.host_io.specs.{Shape}
 use Rattle.host_cache.proofs.DirtyLemmas.{written_none, written_more, runs_stopped, runs_written, dirty_within}
 use Rattle.host_cache.proofs.RunLemmas.{same_then}
 use Rattle.host_cache.proofs.cache.Cache.write_dirty.Goals as goal

@@ -1,5 +1,5 @@
 use Rattle.std.proofs.Common.{◌-◌, ◌≤◌}
-use Rattle.host_cache.specs.Seen.{shape_of, HasSameContent}
+use Rattle.host_cache.specs.{shape_of, HasSameContent}
 use Rattle.host_cache.proofs.DirtyLemmas.{HasWrittenBelow}
 use Rattle.host_cache.proofs.cache.Cache.write_dirty.Given as goal
 

@@ -1,8 +1,7 @@
 use Rattle.std.proofs.Common.{IsTrue, List, ap, sym, ◌∙◌, subst, arith}
-use Rattle.host_cache.specs.Seen.{shape_of}
-use Rattle.host_model.specs.declared.step.Step.{Step}
-use Rattle.host_model.specs.Changes.{changes_of}
-use Rattle.host_device.specs.Faults.{RoseBy, faulted_count}
+use Rattle.host_cache.specs.{shape_of}
+use Rattle.host_model.specs.{Step, changes_of}
+use Rattle.host_device.specs.{RoseBy, faulted_count}
 use Rattle.host_device.proofs.NewLemmas.{told_new}
 use Rattle.host_device.proofs.StepLemmas.{Told}
 use Rattle.host_device.proofs.device.Device.new.Goals as goal

@@ -1,12 +1,10 @@
 use Rattle.std.proofs.Common.{IsTrue, ◌∙◌, ap, sym, subst}
-use Rattle.host_block.specs.declared.op.Op.TheVariants.{Read}
-use Rattle.host_log.specs.Switch.{SwitchedLog}
-use Rattle.host_io.specs.Disks.{Shape}
-use Rattle.host_cache.specs.Seen.{shape_of}
-use Rattle.host_model.specs.declared.step.Step.{Step}
-use Rattle.host_device.specs.declared.steps.Owner.{Owner}
-use Rattle.host_device.specs.Entries.{answer_alone}
-use Rattle.host_device.specs.Faults.{RoseBy, faulted_count}
+use Rattle.host_block.specs.{Read}
+use Rattle.host_log.specs.{SwitchedLog}
+use Rattle.host_io.specs.{Shape}
+use Rattle.host_cache.specs.{shape_of}
+use Rattle.host_model.specs.{Step}
+use Rattle.host_device.specs.{Owner, answer_alone, RoseBy, faulted_count}
 use Rattle.host_device.proofs.DeviceLemmas.{crashes, stepped}
 use Rattle.host_device.proofs.FaultLemmas.{faults_step}
 use Rattle.host_device.proofs.device.Device.read.Goals as goal

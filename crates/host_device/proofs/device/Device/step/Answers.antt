@@ -1,15 +1,10 @@
 use Rattle.std.proofs.Common.{IsTrue, ◌∙◌, ap, sym, subst}
 use Rattle.std.proofs.lemmas.List.{map-append}
-use Rattle.host_log.specs.Switch.{SwitchedLog}
-use Rattle.host_io.specs.Disks.{Shape}
-use Rattle.host_cache.specs.Seen.{shape_of}
-use Rattle.host_model.specs.declared.step.Step.{Step}
-use Rattle.host_model.specs.Changes.{change_of, changes_of}
-use Rattle.host_device.specs.declared.steps.Owner.{Owner}
-use Rattle.host_device.specs.Answers.{entry_for}
-use Rattle.host_device.specs.Entries.{entries_added}
-use Rattle.host_device.specs.Faults.{RoseBy, faulted_count}
-use Rattle.host_device.specs.Seen.{image_of, history_of}
+use Rattle.host_log.specs.{SwitchedLog}
+use Rattle.host_io.specs.{Shape}
+use Rattle.host_cache.specs.{shape_of}
+use Rattle.host_model.specs.{Step, change_of, changes_of}
+use Rattle.host_device.specs.{Owner, step_entry, entries_added, RoseBy, faulted_count, image_of, history_of}
 use Rattle.host_device.proofs.DeviceLemmas.{crashes, stepped, flushed}
 use Rattle.host_device.proofs.FaultLemmas.{faults_step}
 use Rattle.host_device.proofs.device.Device.step.Goals as goal
@@ -66,7 +61,7 @@ returns-clause-flushed g c =
     let m = c.make_step.ensures in
     let new = c.make_step.new.cache in
     let owner : Owner = record { hand = c.args.hand; session = c.args.session; index = c.args.index; k = c.args.k } in
-    let added = entries_added c.make_step.result (entry_for owner c.args.op c.args.b c.args.bytes) in
+    let added = entries_added c.make_step.result (step_entry owner c.args.op c.args.b c.args.bytes) in
     flushed (image_of old) (history_of old) (changes_of c.make_step.new.steps.items) (g.D.Disk.state new.disk) (IsTrue (shape_of new).tells) c.args.op c.args.b c.args.bytes owner c.make_step.result
     (ap (λ (s : SwitchedLog Step). changes_of s.items) m.entry ∙ map-append change_of old.steps.items added)
     (λ told.

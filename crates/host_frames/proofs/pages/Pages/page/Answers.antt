@@ -1,8 +1,6 @@
 use Rattle.std.proofs.Common.{◌<◌, ◌∙◌, ℕ, List, length, map, Some, sym, ap, arith}
 use Rattle.std.proofs.lemmas.List.{length-map}
-use Rattle.host_frames.specs.declared.page.Page.{Page}
-use Rattle.host_frames.specs.Badges.{seen_page}
-use Rattle.host_frames.specs.Seats.{SeenPages, contents}
+use Rattle.host_frames.specs.{Page, seen_page, SeenPages, contents}
 use Rattle.host_frames.proofs.LentPages.{page_read}
 use Rattle.host_frames.proofs.pages.Pages.page.Goals as goal
 

@@ -1,8 +1,6 @@
 use Rattle.std.proofs.Common.{◌<◌, ◌∙◌, ℕ, List, length, map, Some, sym, refl, ap, arith, vec_capacity}
 use Rattle.std.proofs.lemmas.List.{length-map}
-use Rattle.host_frames.specs.declared.page.Page.{Page}
-use Rattle.host_frames.specs.Badges.{seen_page, badge_page_size}
-use Rattle.host_frames.specs.Seats.{SeenPages, contents}
+use Rattle.host_frames.specs.{Page, seen_page, badge_page_size, SeenPages, contents}
 use Rattle.host_frames.proofs.LentPages.{page_written, page_read}
 use Rattle.host_frames.proofs.BadgeLemmas.{whole_written}
 use Rattle.host_frames.proofs.pages.Pages.page_mut.Goals as goal

@@ -1,8 +1,7 @@
 use Rattle.std.proofs.Common.{ap, sym, ◌∙◌, ◌≡◌, ℕ, length, replicate}
 use Rattle.std.specs.Prelude.{Some}
 use Rattle.std.proofs.lemmas.List.Elements.{All-pop}
-use Rattle.host_frames.specs.declared.page.Page.{Page}
-use Rattle.host_frames.specs.Badges.{IsInWords}
+use Rattle.host_frames.specs.{Page, IsInWords}
 use Rattle.host_frames.proofs.pool.Pool.bring_home.Goals as goal
 
 pub put_page-requires-clause-blank : goal.put_page-requires-clause-blank

@@ -1,6 +1,5 @@
 use Rattle.std.proofs.Common.{◌≡◌, ◌≤◌, [], All, length}
-use Rattle.host_frames.specs.Badges.{IsInWords, frames_of_pages}
-use Rattle.host_frames.specs.Moments.{returning_view}
+use Rattle.host_frames.specs.{IsInWords, frames_of_pages, returning_view}
 use Rattle.host_frames.proofs.pool.Pool.bring_home.Given as goal
 
 abbrev pub invariant-loop-frame : goal.invariant-loop-frame

@@ -1,10 +1,8 @@
-use Rattle.std.proofs.Common.{arith, true≢false, ap, sym, subst, ◌∙◌, ◌≡◌, ◌-◌, ℕ, ⊎_elim, length, replicate, All}
+use Rattle.std.proofs.Common.{arith, true≢false, ap, sym, subst, ◌∙◌, ◌≡◌, ℕ, ⊎_elim, length, replicate, All}
 use Rattle.std.specs.Prelude.{Bool, true, false, IsTrue, ◌↔◌, ◌<◌, ◌≤◌, vec_len}
 use mathlib.Core.Logic.{dite}
 use native.Mathlib.Decide.{dec_lt}
-use Rattle.host_frames.specs.declared.page.Page.{Page}
-use Rattle.host_frames.specs.Homes.{IsBlankPage}
-use Rattle.host_frames.specs.Badges.{badge_page_size}
+use Rattle.host_frames.specs.{Page, IsBlankPage, badge_page_size}
 use Rattle.host_frames.proofs.Seating.{packs}
 use Rattle.host_frames.proofs.BadgeLemmas.{blank_contents}
 use Rattle.host_frames.proofs.Claiming.{named_length}

@@ -1,7 +1,6 @@
 use Rattle.std.proofs.Common.{ℕ, subst, arith}
 use Rattle.std.specs.Slots.{slots_items, slots_counts}
-use Rattle.host_frames.specs.Claims.{SomeIsRefused}
-use Rattle.host_frames.specs.Homes.{IsBlankPage}
+use Rattle.host_frames.specs.{SomeIsRefused, IsBlankPage}
 use Rattle.host_frames.proofs.Seating.{ends}
 use Rattle.host_frames.proofs.pool.Pool.close_with.Goals as goal
 

@@ -1,8 +1,7 @@
 use Rattle.std.proofs.Common.{arith, ap, ◌∙◌, ◌∷◌}
 use Rattle.std.specs.Prelude.{None}
 use Rattle.atomic_table.specs.Table.{rest}
-use Rattle.host_frames.specs.Views.{first_of}
-use Rattle.host_frames.specs.Homes.{IsBlankPage}
+use Rattle.host_frames.specs.{first_of, IsBlankPage}
 use Rattle.host_frames.proofs.TableCalls.{fetching, first_held, settling}
 use Rattle.host_frames.proofs.pool.Pool.fetch_page.Goals as goal
 

@@ -3,11 +3,7 @@ use Rattle.std.specs.Int.{bit_at}
 use Rattle.std.proofs.lemmas.List.Elements.{All-push}
 use Rattle.std.proofs.lemmas.Nat.{div_below}
 use Rattle.std.proofs.lemmas.Nat.Bits.{bit_at-lt, shr_and_one}
-use Rattle.host_frames.specs.declared.page.Page.{Page}
-use Rattle.host_frames.specs.Sums.{set_frames}
-use Rattle.host_frames.specs.Homes.{IsBlankPage}
-use Rattle.host_frames.specs.Badges.{IsInWords, frames_of_pages}
-use Rattle.host_frames.specs.Moments.{fetched_view}
+use Rattle.host_frames.specs.{Page, set_frames, IsBlankPage, IsInWords, frames_of_pages, fetched_view}
 use Rattle.host_frames.proofs.Bits.{frames_from, next_set, next_clear}
 use Rattle.host_frames.proofs.Claiming.{fetch_starts, fetch_next, fetch_more, named_snoc}
 use Rattle.host_frames.proofs.pool.Pool.fetch_pages.Goals as goal

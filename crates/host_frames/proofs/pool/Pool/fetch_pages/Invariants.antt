@@ -1,8 +1,5 @@
 use Rattle.std.proofs.Common.{◌≡◌, ◌+◌, ◌-◌, [], length, vec_capacity, All}
-use Rattle.host_frames.specs.Sums.{set_frames, frames_in}
-use Rattle.host_frames.specs.Homes.{IsBlankPage}
-use Rattle.host_frames.specs.Badges.{IsInWords, frames_of_pages}
-use Rattle.host_frames.specs.Moments.{fetched_view}
+use Rattle.host_frames.specs.{set_frames, frames_in, IsBlankPage, IsInWords, frames_of_pages, fetched_view}
 use Rattle.host_frames.proofs.pool.Pool.fetch_pages.Given as goal
 
 abbrev pub invariant-loop-bit : goal.invariant-loop-bit

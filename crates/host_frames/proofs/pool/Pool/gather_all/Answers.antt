@@ -1,6 +1,6 @@
 use Rattle.std.proofs.Common.{◌∙◌, ◌++◌, ap}
 use Rattle.std.specs.Option.{option_to_list}
-use Rattle.host_frames.specs.declared.seat.PoolSeat.{PoolSeat}
+use Rattle.host_frames.specs.{PoolSeat}
 use Rattle.host_frames.proofs.Closing.{standing}
 use Rattle.host_frames.proofs.pool.Pool.gather_all.Goals as goal
 

@@ -1,9 +1,7 @@
 use Rattle.std.proofs.Common.{◌≡◌, ◌+◌, ◌∙◌, ap, sym, refl, arith, ◌∷◌, [], length, append_assoc, append-nil, ◌++◌}
 use Rattle.std.specs.Prelude.{Some}
 use Rattle.std.proofs.lemmas.List.Elements.{All-pop}
-use Rattle.host_frames.specs.declared.seat.PoolSeat.{PoolSeat}
-use Rattle.host_frames.specs.Homes.{IsBlankPage}
-use Rattle.host_frames.specs.Seats.{seat_pool, pool_id}
+use Rattle.host_frames.specs.{PoolSeat, IsBlankPage, seat_pool, pool_id}
 use Rattle.host_frames.proofs.Seating.{gathers}
 use Rattle.host_frames.proofs.Closing.{gather_begins, gather_more}
 use Rattle.host_frames.proofs.pool.Pool.gather_seats.Goals as goal

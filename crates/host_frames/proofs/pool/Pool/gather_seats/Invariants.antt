@@ -1,6 +1,5 @@
 use Rattle.std.proofs.Common.{◌≡◌, ◌++◌, List, All}
-use Rattle.host_frames.specs.declared.seat.PoolSeat.{PoolSeat}
-use Rattle.host_frames.specs.Seats.{HasGathered, seat_pool, pool_id}
+use Rattle.host_frames.specs.{PoolSeat, HasGathered, seat_pool, pool_id}
 use Rattle.host_frames.proofs.pool.Pool.gather_seats.Given as goal
 
 abbrev pub invariant-loop-seat : goal.invariant-loop-seat

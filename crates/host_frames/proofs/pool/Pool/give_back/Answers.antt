@@ -1,5 +1,5 @@
 use Rattle.std.proofs.Common.{arith, ap, ◌∙◌}
-use Rattle.host_frames.specs.Seats.{SeenPages}
+use Rattle.host_frames.specs.{SeenPages}
 use Rattle.host_frames.proofs.BadgeLemmas.{unpacking}
 use Rattle.host_frames.proofs.pool.Pool.give_back.Goals as goal
 

@@ -1,9 +1,7 @@
 use Rattle.std.proofs.Common.{arith, ap, sym, ◌∙◌, ℕ, length, replicate}
 use Rattle.std.specs.Prelude.{Some}
 use Rattle.std.proofs.lemmas.List.Elements.{All-pop}
-use Rattle.host_frames.specs.declared.page.Page.{Page}
-use Rattle.host_frames.specs.Homes.{IsBlankPage}
-use Rattle.host_frames.specs.Badges.{IsInWords}
+use Rattle.host_frames.specs.{Page, IsBlankPage, IsInWords}
 use Rattle.host_frames.proofs.Claiming.{named_pop}
 use Rattle.host_frames.proofs.pool.Pool.give_up.Goals as goal
 

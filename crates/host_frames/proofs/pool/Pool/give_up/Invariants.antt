@@ -1,7 +1,5 @@
 use Rattle.std.proofs.Common.{◌≡◌, [], All, vec_capacity}
-use Rattle.host_frames.specs.Homes.{IsBlankPage}
-use Rattle.host_frames.specs.Badges.{IsInWords, frames_of_pages}
-use Rattle.host_frames.specs.Moments.{refusing_view}
+use Rattle.host_frames.specs.{IsBlankPage, IsInWords, frames_of_pages, refusing_view}
 use Rattle.host_frames.proofs.pool.Pool.give_up.Given as goal
 
 abbrev pub invariant-loop-frame : goal.invariant-loop-frame

@@ -1,8 +1,7 @@
 use Rattle.std.proofs.Common.{arith, refl, ◌∙◌, ◌%◌}
 use Rattle.std.proofs.lemmas.Nat.{mod_below}
 use Rattle.atomic_table.specs.Table.{rest}
-use Rattle.host_frames.specs.Views.{yielded_view}
-use Rattle.host_frames.specs.Homes.{IsBlankPage}
+use Rattle.host_frames.specs.{yielded_view, IsBlankPage}
 use Rattle.host_frames.proofs.TableCalls.{yielding}
 use Rattle.host_frames.proofs.Claiming.{mask_of}
 use Rattle.host_frames.proofs.pool.Pool.give_up_frame.Goals as goal

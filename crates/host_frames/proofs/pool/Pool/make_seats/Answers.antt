@@ -1,6 +1,5 @@
 use Rattle.std.proofs.Common.{◌≡◌, ◌-◌, ◌+◌, ℕ, ◌∙◌, ap, arith}
-use Rattle.host_frames.specs.Views.{idle_view}
-use Rattle.host_frames.specs.Seats.{page_size}
+use Rattle.host_frames.specs.{idle_view, page_size}
 use Rattle.host_frames.proofs.Closing.{making}
 use Rattle.host_frames.proofs.pool.Pool.make_seats.Goals as goal
 

@@ -1,6 +1,5 @@
 use Rattle.std.proofs.Common.{◌≡◌, ◌-◌, ◌≤◌, [], All, vec_len, vec_capacity}
-use Rattle.host_frames.specs.Views.{idle_view}
-use Rattle.host_frames.specs.Seats.{IsNewSeat, pool_id, page_size}
+use Rattle.host_frames.specs.{idle_view, IsNewSeat, pool_id, page_size}
 use Rattle.host_frames.proofs.pool.Pool.make_seats.Given as goal
 
 abbrev pub invariant-loop : goal.invariant-loop

@@ -1,5 +1,5 @@
 use Rattle.std.proofs.Common.{◌∙◌, sym, vec_len}
-use Rattle.host_frames.specs.declared.rule.Opening.{Opening}
+use Rattle.host_frames.specs.{Opening}
 use Rattle.host_frames.proofs.Closing.{opened}
 use Rattle.host_frames.proofs.pool.Pool.new.Goals as goal
 

@@ -1,8 +1,7 @@
 use Rattle.std.proofs.Common.{arith, ap, sym, subst, ◌∙◌, ◌≡◌, ◌∷◌, [], ℕ}
 use Rattle.std.specs.Prelude.{Some}
 use Rattle.atomic_table.specs.Table.{rest}
-use Rattle.host_frames.specs.Views.{first_of, reached_view}
-use Rattle.host_frames.specs.Homes.{IsBlankPage}
+use Rattle.host_frames.specs.{first_of, reached_view, IsBlankPage}
 use Rattle.host_frames.proofs.TableCalls.{reaching, first_held}
 use Rattle.host_frames.proofs.pool.Pool.put_page.Goals as goal
 

@@ -1,9 +1,7 @@
 use Rattle.std.proofs.Common.{arith, ap, sym, ◌∙◌, ℕ, subst, All}
 use Rattle.std.specs.Int.{bit_not, w64}
 use Rattle.std.proofs.lemmas.Nat.Bits.{bit_at-lt, bit_at_and}
-use Rattle.host_frames.specs.declared.page.Page.{Page}
-use Rattle.host_frames.specs.Views.{wins}
-use Rattle.host_frames.specs.Homes.{IsBlankPage}
+use Rattle.host_frames.specs.{Page, wins, IsBlankPage}
 use Rattle.host_frames.proofs.Bits.{won_le}
 use Rattle.host_frames.proofs.Stepping.{wins_keeps}
 use Rattle.host_frames.proofs.Claiming.{claim_wins, wins_meet, same_number, fetch_begins}

@@ -2,9 +2,7 @@ use Rattle.std.proofs.Common.{arith, refl, sym, ◌/◌, ◌∙◌, ℕ, inl, in
 use mathlib.Core.Logic.{dite}
 use native.Mathlib.Decide.{ℕ_discrete}
 use Rattle.std.proofs.lemmas.List.Elements.{All-nil}
-use Rattle.host_frames.specs.Views.{new_claim}
-use Rattle.host_frames.specs.Homes.{IsBlankPage}
-use Rattle.host_frames.specs.Badges.{IsInWords}
+use Rattle.host_frames.specs.{new_claim, IsBlankPage, IsInWords}
 use Rattle.host_frames.proofs.Stepping.{begins_keeps}
 use Rattle.host_frames.proofs.Claiming.{claim_begins}
 use Rattle.host_frames.proofs.pool.Pool.win_frames.Goals as goal

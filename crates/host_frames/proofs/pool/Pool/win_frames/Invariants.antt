@@ -1,8 +1,5 @@
 use Rattle.std.proofs.Common.{◌≡◌, ◌⊎◌, ◌/◌, ◌<◌, ◌≤◌, ℕ, length, vec_capacity, All}
-use Rattle.host_frames.specs.declared.view.Claim.{Claim}
-use Rattle.host_frames.specs.Claims.{times_met}
-use Rattle.host_frames.specs.Badges.{IsInWords}
-use Rattle.host_frames.specs.Moments.{HasClaimed}
+use Rattle.host_frames.specs.{Claim, times_met, IsInWords, HasClaimed}
 use Rattle.host_frames.proofs.pool.Pool.win_frames.Given as goal
 
 abbrev pub invariant-loop-word : goal.invariant-loop-word

@@ -1,11 +1,10 @@
-use Rattle.std.proofs.Common.{arith, ap, refl, ◌⊎◌, ◌-◌, ◌%◌, ◌∙◌, ℕ, inl, inr, ⊎_elim}
+use Rattle.std.proofs.Common.{arith, ap, refl, ◌%◌, ◌∙◌, ℕ, inl, inr, ⊎_elim}
 use Rattle.std.specs.Int.{bit_at}
 use Rattle.std.proofs.lemmas.Nat.{mod_below}
 use Rattle.std.proofs.lemmas.Nat.Bits.{bit_at-lt, bit_at_ones}
 use mathlib.Core.Logic.{dite}
 use native.Mathlib.Decide.{ℕ_discrete, dec_lt}
-use Rattle.host_frames.specs.Views.{looks}
-use Rattle.host_frames.specs.Homes.{IsBlankPage}
+use Rattle.host_frames.specs.{looks, IsBlankPage}
 use Rattle.host_frames.proofs.Bits.{in_word, count_anywhere}
 use Rattle.host_frames.proofs.Stepping.{looks_keeps}
 use Rattle.host_frames.proofs.Claiming.{claim_looks, looks_on, looks_meets}

@@ -1,10 +1,6 @@
 use Rattle.std.proofs.Common.{◌≡◌, ◌⊎◌, ◌/◌, ◌%◌, ◌<◌, ◌≤◌, ◌-◌, ℕ, vec_capacity, All}
 use Rattle.std.specs.Int.{bit_at}
-use Rattle.host_frames.specs.declared.view.View.{View}
-use Rattle.host_frames.specs.declared.view.Claim.{Claim}
-use Rattle.host_frames.specs.Claims.{times_met}
-use Rattle.host_frames.specs.Badges.{IsInWords}
-use Rattle.host_frames.specs.Moments.{HasClaimed, HasGoneOn}
+use Rattle.host_frames.specs.{View, Claim, times_met, IsInWords, HasClaimed, HasGoneOn}
 use Rattle.host_frames.proofs.pool.Pool.win_word.Given as goal
 
 abbrev pub invariant-loop-from : goal.invariant-loop-from

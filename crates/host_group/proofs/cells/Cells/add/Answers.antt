@@ -1,5 +1,5 @@
 use Rattle.std.proofs.Common.{◌≤◌, ◌<◌, ◌+◌, ◌^◌, length, sym, subst, arith}
-use Rattle.host_group.specs.declared.view.View.{View}
+use Rattle.host_group.specs.{View}
 use Rattle.host_group.proofs.AdmitSteps.{adds_open, adds_last}
 use Rattle.host_group.proofs.cells.Cells.add.Goals as goal
 

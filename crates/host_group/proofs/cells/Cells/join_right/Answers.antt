@@ -1,6 +1,6 @@
 use Rattle.std.proofs.Common.{ap, arith, ⊎_elim}
 use Rattle.host_group.proofs.cells.Cells.join_right.Goals as goal
-use Rattle.host_group.specs.Tallies.{unsettled_of, ending_of}
+use Rattle.host_group.specs.{unsettled_of, ending_of}
 use Rattle.host_group.proofs.Seating.{returns}
 
 pub join_seat-requires : goal.join_seat-requires

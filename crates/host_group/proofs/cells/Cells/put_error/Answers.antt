@@ -1,6 +1,6 @@
 use Rattle.std.proofs.Common.{arith, ap, sym, ◌∙◌}
 use Rattle.host_group.proofs.cells.Cells.put_error.Goals as goal
-use Rattle.host_group.specs.Failures.{failure_word, status_of}
+use Rattle.host_group.specs.{failure_word, status_of}
 use Rattle.host_group.proofs.FailureLemmas.{status_of_word}
 use Rattle.host_group.proofs.RightSteps.{puts_error}
 

@@ -1,7 +1,5 @@
 use Rattle.std.proofs.Common.{ap, set, refl, sym, ◌∙◌, arith}
-use Rattle.host_group.specs.Seats.{member}
-use Rattle.host_group.specs.declared.plain_cells.PlainCell.{PlainCell}
-use Rattle.host_group.specs.PlainRows.{empty_cell, added_cell}
+use Rattle.host_group.specs.{member, PlainCell, empty_cell, added_cell}
 use Rattle.host_group.proofs.PlainLemmas.{cell_here, cell_own, rows_added, rows_else}
 use Rattle.host_group.proofs.plain_cells.PlainCells.admit.Goals as goal
 

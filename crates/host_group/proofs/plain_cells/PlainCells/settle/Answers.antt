@@ -1,9 +1,6 @@
 use Rattle.std.proofs.Common.{get_or, ◌≡◌, ◌⊎◌, ◌<◌, ap, sym, subst, ◌∙◌, arith}
 use Rattle.std.specs.Prelude.{false, set}
-use Rattle.host_group.specs.Failures.{failure_word}
-use Rattle.host_group.specs.declared.plain_cells.PlainCell.{PlainCell}
-use Rattle.host_group.specs.Ends.{IsEnd}
-use Rattle.host_group.specs.PlainRows.{empty_cell, plain_cell, settled_cell, cell_end, settled_row}
+use Rattle.host_group.specs.{failure_word, PlainCell, IsEnd, empty_cell, plain_cell, settled_cell, cell_end, settled_row}
 use Rattle.host_group.proofs.PlainLemmas.{cell_here, cell_own, goes_on, comes_to_end, rows_else}
 use Rattle.host_group.proofs.plain_cells.PlainCells.settle.Goals as goal
 

@@ -1,11 +1,6 @@
 use Rattle.std.proofs.Common.{◌≡◌, ◌+◌, None, refl, sym, ap, subst, ◌∙◌}
-use Rattle.host_turn.specs.Seats.{number}
-use Rattle.host_intake.specs.declared.entry.Phase.TheVariants.{Running, Aborted, Closed}
-use Rattle.host_intake.specs.IntakeFields.{intake_state}
-use Rattle.host_intake.specs.Intaken.{IsIntake}
-use Rattle.host_intake.specs.Ledgers.{LedgerState}
-use Rattle.host_intake.specs.State.{IntakeState}
-use Rattle.host_intake.specs.Told.{kept_slips, phase_in, turns}
+use Rattle.host_turn.specs.{number}
+use Rattle.host_intake.specs.{Running, Aborted, Closed, intake_state, IsIntake, LedgerState, IntakeState, kept_slips, phase_in, turns}
 use Rattle.host_intake.proofs.Keeping.{intake_aborted, none_kept}
 use Rattle.host_intake.proofs.Courses.{course_begun}
 use Rattle.host_intake.proofs.intake.Intake.abort.Goals as goal

@@ -1,6 +1,5 @@
 use Rattle.std.proofs.Common.{◌<◌, sym, subst, ◌∙◌}
-use Rattle.host_intake.specs.Admissions.{IsOpen, IsTakenOrStalled, load_in}
-use Rattle.host_intake.specs.State.{IntakeState}
+use Rattle.host_intake.specs.{IsOpen, IsTakenOrStalled, load_in, IntakeState}
 use Rattle.host_intake.proofs.NextAnswer.{answer_next, first_is}
 use Rattle.host_intake.proofs.intake.Intake.admit_next.Goals as goal
 

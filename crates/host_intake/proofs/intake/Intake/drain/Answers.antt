@@ -1,11 +1,6 @@
 use Rattle.std.proofs.Common.{◌≡◌, ◌+◌, refl, sym, subst}
-use Rattle.host_turn.specs.Seats.{number}
-use Rattle.host_intake.specs.declared.entry.Phase.TheVariants.{Running, Draining, Closed}
-use Rattle.host_intake.specs.IntakeFields.{intake_state}
-use Rattle.host_intake.specs.Intaken.{IsIntake}
-use Rattle.host_intake.specs.Ledgers.{LedgerState}
-use Rattle.host_intake.specs.State.{IntakeState}
-use Rattle.host_intake.specs.Told.{phase_in, turns}
+use Rattle.host_turn.specs.{number}
+use Rattle.host_intake.specs.{Running, Draining, Closed, intake_state, IsIntake, LedgerState, IntakeState, phase_in, turns}
 use Rattle.host_intake.proofs.Keeping.{intake_turned}
 use Rattle.host_intake.proofs.Courses.{course_begun}
 use Rattle.host_intake.proofs.intake.Intake.drain.Goals as goal

@@ -1,7 +1,5 @@
 use Rattle.std.proofs.Common.{◌≡◌, false, sym, subst, ◌∙◌}
-use Rattle.host_intake.specs.IntakeFields.{intake_state}
-use Rattle.host_intake.specs.State.{IntakeState}
-use Rattle.host_intake.specs.Told.{is_over, phase_in}
+use Rattle.host_intake.specs.{intake_state, IntakeState, is_over, phase_in}
 use Rattle.host_intake.proofs.Popping.{intake_held, none_of}
 use Rattle.host_intake.proofs.intake.Intake.hold_next.Goals as goal
 

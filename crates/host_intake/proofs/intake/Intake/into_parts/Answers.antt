@@ -1,8 +1,5 @@
 use Rattle.std.proofs.Common.{◌≡◌, sym, subst}
-use Rattle.host_intake.specs.declared.entry.Phase.TheVariants.{Closed}
-use Rattle.host_intake.specs.IntakeFields.{intake_state}
-use Rattle.host_intake.specs.State.{IntakeState}
-use Rattle.host_intake.specs.Told.{phase_in}
+use Rattle.host_intake.specs.{Closed, intake_state, IntakeState, phase_in}
 use Rattle.host_intake.proofs.Ended.{none_out}
 use Rattle.host_intake.proofs.intake.Intake.into_parts.Goals as goal
 

@@ -1,19 +1,9 @@
 use Rattle.std.proofs.Common.{◌≡◌, ◌+◌, ◌≤◌, true, false, length, Option, Some, sym, subst}
 use Rattle.std.specs.List.{list_any}
 use Rattle.atomic_table.specs.Seated.{TableId}
-use Rattle.host_model.specs.Log.{request_at}
-use Rattle.host_group.specs.declared.seat.CellSeat.{CellSeat}
-use Rattle.host_group.specs.Seats.{cells_id, seat_cells, IsAdmittingOf}
-use Rattle.host_intake.specs.Answers.{answer_owed}
-use Rattle.host_intake.specs.Rights.{AreSettled}
-use Rattle.host_intake.specs.Entries.{requests_of, takings}
-use Rattle.host_intake.specs.IntakeFields.{intake_state}
-use Rattle.host_intake.specs.Intaken.{IsIntake}
-use Rattle.host_intake.specs.Ledgers.{LedgerState}
-use Rattle.host_intake.specs.Members.{is_lander}
-use Rattle.host_intake.specs.State.{IntakeState}
-use Rattle.host_intake.specs.Told.{flights_in, is_flying, kept_slips}
-use Rattle.host_intake.specs.Waits.{is_waiting_at}
+use Rattle.host_model.specs.{request_at}
+use Rattle.host_group.specs.{CellSeat, cells_id, seat_cells, IsAdmittingOf}
+use Rattle.host_intake.specs.{answer_owed, AreSettled, requests_of, takings, intake_state, IsIntake, LedgerState, is_lander, IntakeState, flights_in, is_flying, kept_slips, is_waiting_at}
 use Rattle.host_intake.proofs.Ended.{intake_landed_lone, intake_landed_member}
 use Rattle.host_intake.proofs.intake.Intake.landed.Goals as goal
 

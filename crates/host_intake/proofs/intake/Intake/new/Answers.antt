@@ -1,7 +1,5 @@
 use Rattle.std.proofs.Common.{◌<◌, List, [], None, sym, subst, arith}
-use Rattle.host_intake.specs.declared.waiting.Waiting.{Waiting}
-use Rattle.host_intake.specs.Intaken.{IsIntake}
-use Rattle.host_intake.specs.Ledgers.{LedgerState}
+use Rattle.host_intake.specs.{Waiting, IsIntake, LedgerState}
 use Rattle.host_intake.proofs.Beginning.{intake_new}
 use Rattle.host_intake.proofs.intake.Intake.new.Goals as goal
 

@@ -1,9 +1,5 @@
 use Rattle.std.proofs.Common.{◌<◌, length, sym, subst}
-use Rattle.host_intake.specs.IntakeFields.{intake_state}
-use Rattle.host_intake.specs.Intaken.{IsIntake}
-use Rattle.host_intake.specs.Ledgers.{LedgerState}
-use Rattle.host_intake.specs.State.{IntakeState}
-use Rattle.host_intake.specs.Told.{kept_slips}
+use Rattle.host_intake.specs.{intake_state, IsIntake, LedgerState, IntakeState, kept_slips}
 use Rattle.host_intake.proofs.Keeping.{intake_passed}
 use Rattle.host_intake.proofs.intake.Intake.passed.Goals as goal
 

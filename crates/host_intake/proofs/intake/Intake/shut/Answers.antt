@@ -1,11 +1,6 @@
 use Rattle.std.proofs.Common.{◌≡◌, ◌+◌, true, refl, sym, subst}
-use Rattle.host_turn.specs.Seats.{number}
-use Rattle.host_intake.specs.declared.entry.Phase.TheVariants.{Closed}
-use Rattle.host_intake.specs.IntakeFields.{intake_state}
-use Rattle.host_intake.specs.Intaken.{IsIntake}
-use Rattle.host_intake.specs.Ledgers.{LedgerState}
-use Rattle.host_intake.specs.State.{IntakeState}
-use Rattle.host_intake.specs.Told.{flights_in, is_ending, phase_in, turns}
+use Rattle.host_turn.specs.{number}
+use Rattle.host_intake.specs.{Closed, intake_state, IsIntake, LedgerState, IntakeState, flights_in, is_ending, phase_in, turns}
 use Rattle.host_intake.proofs.Keeping.{intake_turned}
 use Rattle.host_intake.proofs.Courses.{course_shut}
 use Rattle.host_intake.proofs.intake.Intake.shut.Goals as goal

@@ -1,24 +1,13 @@
 use Rattle.std.proofs.Common.{◌≡◌, ℕ, ◌≤◌, Bool, true, false, List, [], ◌∷◌, ◌++◌, length, Option, Some, None, refl, sym, ap, subst, ◌∙◌, arith, length-append}
 use Rattle.atomic_table.specs.Seated.{TableId}
 use Rattle.host_record.specs.declared.request.Request.{Request}
-use Rattle.host_model.specs.Groups.{is_member}
-use Rattle.host_model.specs.declared.memory.MemEntry.{MemEntry}
-use Rattle.host_group.specs.Seats.{IsAdmittingOf, cells_id, seat_cells, view_of}
-use Rattle.host_group.specs.Steps.{IsBusy}
+use Rattle.host_model.specs.{is_member, MemEntry}
+use Rattle.host_group.specs.{IsAdmittingOf, cells_id, seat_cells, view_of, IsBusy}
 use Rattle.host_memory.proofs.Pushed.{filter_map_add}
-use Rattle.host_turn.proofs.Histories.{prefix_refl}
-use Rattle.host_turn.specs.Seats.{number, seen_by}
-use Rattle.host_rings.specs.declared.envelope.Envelope.{Envelope}
-use Rattle.host_intake.specs.declared.admission.Admission.{Admission}
-use Rattle.host_intake.specs.declared.waiting.Waiting.{Waiting}
-use Rattle.host_intake.specs.Admissions.{IsAdmitted, IsOpen, IsRightOut, IsStalled, IsTakenOrStalled, entry_for}
-use Rattle.host_intake.specs.Entries.{Taking, taking_of, takings, landings}
-use Rattle.host_intake.specs.IntakeFields.{intake_state}
-use Rattle.host_intake.specs.Intaken.{IsIntake}
-use Rattle.host_intake.specs.Ledgers.{LedgerState}
-use Rattle.host_intake.specs.Rights.{HasRight}
-use Rattle.host_intake.specs.State.{IntakeState}
-use Rattle.host_intake.specs.Takings.{AreTaken}
+use Rattle.host_log.proofs.Histories.{prefix_refl}
+use Rattle.host_turn.specs.{number, seen_by}
+use Rattle.host_rings.specs.{Envelope}
+use Rattle.host_intake.specs.{Admission, Waiting, IsAdmitted, IsOpen, IsRightOut, IsStalled, IsTakenOrStalled, taking_entry, Taking, taking_of, takings, landings, intake_state, IsIntake, LedgerState, HasRight, IntakeState, AreTaken}
 use Rattle.host_intake.proofs.Admitting.{waiting_one, waiting_taken}
 use Rattle.host_intake.proofs.Answering.{told_waiting, told_answer, pages_told, waiting_few}
 use Rattle.host_intake.proofs.HeldTaken.{cells_given, fewer_out, flights_few, index_fits, index_next, intake_taken, right_given, room_next}
@@ -100,7 +89,7 @@ invariant_of-self-then-judged g c =
     let waits = waiting_one ts ls t k.landed (seat_cells s.cell_seat) s.waiting c.in-Ok.right k.waiting (index_next s k e held goes) c.if-judged.true right in (
       subst (λ (o : Option Envelope). IsIntake (record s { room = c.take_in.new.ledger.room; keeps = c.take_in.new.ledger.keeps; entries = c.take_in.new.ledger.entries; held = o; waiting = c.push_reserved.new.self.items; memory_seat = m; cell_seat = q })) (sym c.take_in.ensures.held)
           (subst (λ (z : LedgerState). IsIntake (record s { room = z.room; keeps = z.keeps; entries = z.entries; held = None; waiting = c.push_reserved.new.self.items; memory_seat = m; cell_seat = q })) (sym c.take_in.ensures.ledger)
-          (subst (λ (w : List Waiting). IsIntake (record s { entries = s.entries ++ entry_for t ∷ []; held = None; waiting = w; memory_seat = m; cell_seat = q })) (sym c.push_reserved.ensures.items)
+          (subst (λ (w : List Waiting). IsIntake (record s { entries = s.entries ++ taking_entry t ∷ []; held = None; waiting = w; memory_seat = m; cell_seat = q })) (sym c.push_reserved.ensures.items)
           (intake_taken s k e held goes t refl m q _ rests (c.meet.ensures.from.0.2 ∙ c.judge_next-judged.ensures.seat.0.2) took (admits.0 ∙ sym mine) in_cells waits))),
       subst (λ (z : ℕ). 64 ≤ z) (sym c.push_reserved.ensures.capacity) c.self.invariant.1,
     )
@@ -151,10 +140,10 @@ returns-clause-answer g c =
     let known = judged_told s.part (number s.memory_seat) (seen_by from) (seen_by to) ts t c.judge_next-judged.ensures.taken c.meet.ensures.told in
     let was = judged_told s.part (number s.memory_seat) (seen_by from) (seen_by from) ts t c.judge_next-judged.ensures.taken (prefix_refl (seen_by from)) in
     let new : IntakeState = record s { room = c.take_in.new.ledger.room; keeps = c.take_in.new.ledger.keeps; entries = c.take_in.new.ledger.entries; held = c.take_in.new.held; memory_seat = c.meet.new.from; cell_seat = q } in
-    let entries : c.take_in.new.ledger.entries ≡ s.entries ++ entry_for t ∷ [] = ap (λ (z : LedgerState). z.entries) c.take_in.ensures.ledger in
+    let entries : c.take_in.new.ledger.entries ≡ s.entries ++ taking_entry t ∷ [] = ap (λ (z : LedgerState). z.entries) c.take_in.ensures.ledger in
     let has = has_taken s k e held goes new to t refl entries c.take_in.ensures.held known in
     let right = subst (λ (z : TableId). HasRight z (ts ++ t ∷ []) t c.in-Ok.right) (sym mine) (right_given s k e held goes t refl c.args.cells.now q c.from_bytes-request.result c.from_bytes-request.ensures.fields c.in-Ok.right c.in-Ok.ensures.right) in
-    let told : takings c.take_in.new.ledger.entries ≡ ts ++ t ∷ [] = ap takings entries ∙ filter_map_add taking_of s.entries (entry_for t) t refl in
+    let told : takings c.take_in.new.ledger.entries ≡ ts ++ t ∷ [] = ap takings entries ∙ filter_map_add taking_of s.entries (taking_entry t) t refl in
     let pages = pages_told from to t c.judge_next-judged.result.pages (c.meet.ensures.fixed_part ∙ sym c.meet.ensures.to.0.3) c.meet.ensures.told was.seen c.judge_next-judged.ensures.pages in
     let out : IsRightOut s new t c.in-Ok.right = (
       λ f. (refl, subst (λ (l : List Taking). HasRight (seat_cells s.cell_seat) l t c.in-Ok.right) (sym told) right),

@@ -1,11 +1,7 @@
 use Rattle.std.proofs.Common.{◌≡◌, ℕ, ◌≤◌, List, Option, Some, None, false, refl, sym, ap, subst, ◌∙◌}
 use Rattle.std.specs.Prelude.{MatchOption, position}
 use Rattle.std.specs.List.{list_any}
-use Rattle.host_intake.specs.declared.waiting.Waiting.{Waiting}
-use Rattle.host_intake.specs.IntakeFields.{intake_state}
-use Rattle.host_intake.specs.Intaken.{IsIntake}
-use Rattle.host_intake.specs.State.{IntakeState}
-use Rattle.host_intake.specs.Waits.{HasLeft, is_waiting_at}
+use Rattle.host_intake.specs.{Waiting, intake_state, IsIntake, IntakeState, HasLeft, is_waiting_at}
 use Rattle.host_intake.proofs.Leaving.{position_none, intake_left, has_left}
 use Rattle.host_intake.proofs.intake.Intake.waiting.Goals as goal
 

@@ -1,10 +1,6 @@
 use Rattle.std.proofs.Common.{◌≡◌, ℕ, ◌≤◌, [], ◌∷◌, ◌++◌, true, refl, sym, subst}
-use Rattle.host_intake.specs.declared.entry.Phase.TheVariants.{Aborted, Closed}
-use Rattle.host_block.specs.Room.{WithRoom}
-use Rattle.host_intake.specs.declared.entry.IntakeEntry.{IntakeEntry}
-use Rattle.host_intake.specs.Ledgers.{LedgerState, is_course}
-use Rattle.host_intake.specs.Rows.{AreRows}
-use Rattle.host_intake.specs.Told.{turns}
+use Rattle.host_intake.specs.{Aborted, Closed, IntakeEntry, LedgerState, is_course, AreRows, turns}
+use Rattle.host_block.specs.{WithRoom}
 use Rattle.host_intake.proofs.Ledgering.{kept_as}
 use Rattle.host_intake.proofs.RowsKept.{rows_turned}
 use Rattle.host_intake.proofs.Turning.{room_turned, ledger_aborted}

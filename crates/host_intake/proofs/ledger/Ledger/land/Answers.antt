@@ -1,11 +1,7 @@
 use Rattle.std.proofs.Common.{◌≡◌, ℕ, ◌+◌, ◌≤◌, List, true, length, refl, sym, ap, subst, arith, Bool, ◌++◌, ◌∷◌, [], ◌∙◌}
-use Rattle.host_block.specs.Room.{WithRoom}
+use Rattle.host_block.specs.{WithRoom}
 use Rattle.std.specs.Prelude.{is_some}
-use Rattle.host_intake.specs.declared.entry.IntakeEntry.{IntakeEntry}
-use Rattle.host_intake.specs.declared.entry.IntakeEntry.TheVariants.{Landed}
-use Rattle.host_intake.specs.Ledgers.{LedgerState}
-use Rattle.host_intake.specs.Rows.{AreRows}
-use Rattle.host_intake.specs.Told.{flights_in, is_flying, kept_slips}
+use Rattle.host_intake.specs.{IntakeEntry, Landed, LedgerState, AreRows, flights_in, is_flying, kept_slips}
 use Rattle.host_intake.proofs.Ending.{is_taken, some_flight, room_landed, kept_room, ledger_landed}
 use Rattle.host_intake.proofs.Ledgering.{kept_as, load_is}
 use Rattle.host_intake.proofs.RowsKept.{rows_long, rows_settled, settled_still}

@@ -1,9 +1,6 @@
 use Rattle.std.proofs.Common.{ℕ, ◌<◌, ◌≤◌, length, refl, sym, subst}
-use Rattle.host_block.specs.Room.{WithRoom}
-use Rattle.host_intake.specs.declared.entry.IntakeEntry.{IntakeEntry}
-use Rattle.host_intake.specs.Ledgers.{LedgerState}
-use Rattle.host_intake.specs.Rows.{AreRows}
-use Rattle.host_intake.specs.Told.{kept_slips}
+use Rattle.host_block.specs.{WithRoom}
+use Rattle.host_intake.specs.{IntakeEntry, LedgerState, AreRows, kept_slips}
 use Rattle.host_intake.proofs.Ledgering.{kept_as}
 use Rattle.host_intake.proofs.RowsKept.{rows_passed}
 use Rattle.host_intake.proofs.Turning.{room_passed, ledger_passed}

@@ -1,11 +1,6 @@
 use Rattle.std.proofs.Common.{◌≡◌, ℕ, ◌+◌, ◌<◌, length, refl, sym, subst, arith}
-use Rattle.host_block.specs.Room.{WithRoom}
-use Rattle.host_intake.specs.declared.entry.IntakeEntry.{IntakeEntry}
-use Rattle.host_intake.specs.declared.entry.Phase.TheVariants.{Closed}
-use Rattle.host_intake.specs.Entries.{takings}
-use Rattle.host_intake.specs.Ledgers.{LedgerState}
-use Rattle.host_intake.specs.Rows.{AreRows}
-use Rattle.host_intake.specs.Told.{flights_in, kept_slips, phase_in}
+use Rattle.host_block.specs.{WithRoom}
+use Rattle.host_intake.specs.{IntakeEntry, Closed, takings, LedgerState, AreRows, flights_in, kept_slips, phase_in}
 use Rattle.host_intake.proofs.Ledgering.{room_took, kept_as, ledger_took, load_is}
 use Rattle.host_intake.proofs.RowsKept.{rows_roomy, rows_pushed}
 use Rattle.host_intake.proofs.ledger.Ledger.take.Goals as goal

@@ -1,10 +1,6 @@
 use Rattle.std.proofs.Common.{◌≡◌, [], ◌∷◌, ◌++◌, true, refl, sym, subst}
-use Rattle.host_intake.specs.declared.entry.Phase.TheVariants.{Closed}
-use Rattle.host_block.specs.Room.{WithRoom}
-use Rattle.host_intake.specs.declared.entry.IntakeEntry.{IntakeEntry}
-use Rattle.host_intake.specs.Ledgers.{LedgerState, is_course}
-use Rattle.host_intake.specs.Rows.{AreRows}
-use Rattle.host_intake.specs.Told.{flights_in, turns}
+use Rattle.host_intake.specs.{Closed, IntakeEntry, LedgerState, is_course, AreRows, flights_in, turns}
+use Rattle.host_block.specs.{WithRoom}
 use Rattle.host_intake.proofs.Ledgering.{kept_as}
 use Rattle.host_intake.proofs.RowsKept.{rows_turned}
 use Rattle.host_intake.proofs.Turning.{room_turned, ledger_goes_on}

@@ -1,9 +1,6 @@
 use Rattle.std.proofs.Common.{◌≡◌, ℕ, ◌/◌, length, sym, ◌∙◌, ap, arith, subst}
-use Rattle.host_block.specs.Disk.{block_at, picked, IsPicked}
-use Rattle.host_io.specs.Flat.{cut, put_at, image_of}
-use Rattle.host_io.specs.FlatShape.{length-cut}
-use Rattle.host_io.specs.MemDisk.{state_of}
-use Rattle.host_io.specs.Waiting.{pairs_of}
+use Rattle.host_block.specs.{block_at, picked, IsPicked}
+use Rattle.host_io.specs.{cut, put_at, image_of, length-cut, state_of, pairs_of}
 use Rattle.host_io.proofs.FlatLemmas.{picks_more}
 use Rattle.host_io.proofs.mem_disk.MemDisk.crash.Goals as goal
 

@@ -1,8 +1,7 @@
 use Rattle.std.proofs.Common.{◌≡◌, ℕ, ◌<◌, ◌*◌, drop, length}
 use Rattle.std.specs.Prelude.{slice_index_or}
-use Rattle.host_block.specs.Disk.{block_at, picked}
-use Rattle.host_io.specs.Flat.{cut}
-use Rattle.host_io.specs.Waiting.{pairs_of}
+use Rattle.host_block.specs.{block_at, picked}
+use Rattle.host_io.specs.{cut, pairs_of}
 use Rattle.host_io.proofs.mem_disk.MemDisk.crash.Given as goal
 
 abbrev pub invariant-loop-b : goal.invariant-loop-b

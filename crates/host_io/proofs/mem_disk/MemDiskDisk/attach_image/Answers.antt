@@ -1,8 +1,6 @@
 use Rattle.std.proofs.Common.{◌≡◌, ◌/◌, List, length, sym, ◌∙◌, ap, refl}
-use Rattle.host_block.specs.Disk.{DiskState}
-use Rattle.host_io.specs.Flat.{put_all}
-use Rattle.host_io.specs.FlatShape.{length-cut}
-use Rattle.host_io.specs.Waiting.{pairs_of}
+use Rattle.host_block.specs.{DiskState}
+use Rattle.host_io.specs.{put_all, length-cut, pairs_of}
 use Rattle.host_io.specs.declared.flat.Waiting.{Waiting}
 use Rattle.host_io.proofs.FlatLemmas.{attached_state}
 use Rattle.host_io.proofs.mem_disk.MemDiskDisk.attach_image.Goals as goal

@@ -1,6 +1,6 @@
 use Rattle.std.proofs.Common.{sym, ◌∙◌, ap, length}
 use Rattle.host_block.proofs.DiskLemmas.{length-read_of}
-use Rattle.host_io.specs.FlatShape.{cut_of_size}
+use Rattle.host_io.specs.{cut_of_size}
 use Rattle.host_io.proofs.FlatLemmas.{flat_state, read_state}
 use Rattle.host_io.proofs.mem_disk.MemDiskDisk.read_block.Goals as goal
 

@@ -1,8 +1,6 @@
 use Rattle.std.proofs.Common.{◌≡◌, ◌-◌, List, take, drop, sym, ◌∙◌, ap, arith, refl, Some}
 use Rattle.std.proofs.lemmas.List.{length-map}
-use Rattle.host_io.specs.Causes.{next_count}
-use Rattle.host_io.specs.Fails.{part_listed}
-use Rattle.host_io.specs.declared.fails.CallKind.TheVariants.{Sync}
+use Rattle.host_io.specs.{next_count, part_listed, Sync}
 use Rattle.host_io.specs.declared.flat.Waiting.{Waiting}
 use Rattle.host_io.proofs.FailLemmas.{synced_as_listed}
 use Rattle.host_io.proofs.FlatLemmas.{synced_state, part_synced_state, turned_off}

@@ -1,7 +1,7 @@
 use Rattle.std.proofs.Common.{◌≡◌, ◌<◌, ⊎_elim, length, arith, inl}
 use Rattle.std.specs.Prelude.{◌-◌}
 use Rattle.std.proofs.lemmas.Bool.Decides.{nat_tests}
-use Rattle.host_io.specs.Causes.{next_count}
+use Rattle.host_io.specs.{next_count}
 use Rattle.host_io.proofs.FailLemmas.{listed_here, listed_there}
 use Rattle.host_io.proofs.mem_sink.MemSink.fails_to_put.Goals as goal
 use Rattle.host_io.proofs.mem_sink.MemSink.fails_to_put.Goals.{else-len-self-via-then-len-self+else-not-is_empty, else-len-self-via-else-len-self}

@@ -1,6 +1,6 @@
 use Rattle.std.proofs.Common.{◌≡◌, ℕ, ◌+◌, ◌-◌, List, length, ◌++◌, take, drop, sym, ◌∙◌, refl, arith, length-append, length-drop, length-take}
 use Rattle.std.proofs.lemmas.List.{take_at, drop-drop, take-append-drop, drop_all}
-use Rattle.host_io.specs.Causes.{next_count}
+use Rattle.host_io.specs.{next_count}
 use Rattle.host_io.proofs.FailLemmas.{listed_here}
 use Rattle.host_io.proofs.mem_source.MemSourceSource.take.Goals as goal
 

@@ -1,5 +1,5 @@
 use Rattle.std.proofs.Common.{◌≡◌, ◌∙◌, ◌++◌, ℕ, List, [], ◌∷◌, length, length-append, ap, flat_map, rules, arith}
-use Rattle.host_list.specs.Name.{unit_text}
+use Rattle.host_list.specs.{unit_text}
 use Rattle.host_list.proofs.NameLemmas.{short_units}
 use Rattle.host_list.proofs.name.NameText.of.Goals as goal
 

@@ -1,5 +1,5 @@
 use Rattle.std.proofs.Common.{◌∙◌, ◌++◌, ◌+◌, ◌≤◌, ℕ, List, append_assoc, ap, length, sym, take, flat_map, get_or, subst, arith}
-use Rattle.host_list.specs.Name.{unit_text}
+use Rattle.host_list.specs.{unit_text}
 use Rattle.host_list.proofs.NameLemmas.{has_room, next_unit}
 use Rattle.host_list.proofs.name.NameText.push_units.Goals as goal
 

@@ -3,7 +3,7 @@ use Rattle.std.specs.List.{range_with_len}
 use Rattle.std.proofs.lemmas.List.{take_all}
 use Rattle.std.proofs.Math.Nat.{mul-le-mul_right}
 use Rattle.std.proofs.lemmas.Slice.{take-put_mid}
-use Rattle.host_memory.specs.PagesHeld.{page_held}
+use Rattle.host_memory.specs.{page_held}
 use Rattle.host_memory.proofs.Showing.{copied_more}
 use Rattle.host_memory.proofs.buffer.Buffer.show.Goals as goal
 

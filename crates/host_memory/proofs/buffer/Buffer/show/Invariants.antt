@@ -1,6 +1,6 @@
 use Rattle.std.proofs.Common.{◌≡◌, ◌*◌, take, flat_map}
 use Rattle.std.specs.List.{range_with_len}
-use Rattle.host_memory.specs.PagesHeld.{page_held}
+use Rattle.host_memory.specs.{page_held}
 use Rattle.host_memory.proofs.buffer.Buffer.show.Given as goal
 
 abbrev pub invariant-loop-i : goal.invariant-loop-i

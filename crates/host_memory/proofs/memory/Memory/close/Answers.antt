@@ -1,10 +1,7 @@
 use Rattle.std.proofs.Common.{◌≡◌, ◌+◌, ◌==◌, ◌∙◌, [], ◌∷◌, ◌++◌, Some, None, true, if◌then◌else◌, refl, sym, ap, subst}
 use Rattle.std.specs.Option.{is_some}
 use Rattle.host_model.specs.declared.memory.MemEvent.TheVariants as mem
-use Rattle.host_memory.specs.Held.{holds_pages, page_count_of}
-use Rattle.host_memory.specs.PagesHeld.{ArePagesOf}
-use Rattle.host_memory.specs.Pins.{closer_due, pins_on}
-use Rattle.host_memory.specs.State.{MemoryState, history, size_of}
+use Rattle.host_memory.specs.{holds_pages, page_count_of, ArePagesOf, closer_due, pins_on, MemoryState, history, block_size_of}
 use Rattle.host_memory.proofs.Closing.{busy_found, closing_due, closing_holds, free_found, pages_before}
 use Rattle.host_memory.proofs.Pushed.{events_pushed}
 use Rattle.host_memory.proofs.memory.Memory.close.Goals as goal
@@ -35,6 +32,6 @@ pub returns-clause-pages : goal.returns-clause-pages
 returns-clause-pages c = let s = c.args.self.now in let e = mem.Close c.args.index c.args.id in
     let now : history c.mark_closed.new.self ≡ history s ++ e ∷ [] = ap history c.mark_closed.ensures ∙ events_pushed s.entries (record { hand = c.self.inside.limits.hands + 1; what = e }) in
     let plan = ap (λ (z : MemoryState). z.plan) c.mark_closed.ensures in
-    pages_before s.plan.pool (size_of s) c.args.id (history s) e c.release.result refl (λ k. refl)
-    (subst (λ h. ArePagesOf s.plan.pool (size_of s) h c.args.id (page_count_of c.args.id h) c.release.result) now
+    pages_before s.plan.pool (block_size_of s) c.args.id (history s) e c.release.result refl (λ k. refl)
+    (subst (λ h. ArePagesOf s.plan.pool (block_size_of s) h c.args.id (page_count_of c.args.id h) c.release.result) now
     (subst (λ p. ArePagesOf p.pool p.limits.size (history c.mark_closed.new.self) c.args.id (page_count_of c.args.id (history c.mark_closed.new.self)) c.release.result) plan c.release.ensures.pages))

@@ -1,8 +1,6 @@
 use Rattle.std.proofs.Common.{◌≡◌, ◌∙◌, true, sym, ap, subst, arith}
-use Rattle.host_frames.specs.Seats.{pool_id}
-use Rattle.host_memory.specs.Held.{holds_pages}
-use Rattle.host_memory.specs.Pins.{closer_due}
-use Rattle.host_memory.specs.State.{MemoryState, history}
+use Rattle.host_frames.specs.{pool_id}
+use Rattle.host_memory.specs.{holds_pages, closer_due, MemoryState, history}
 use Rattle.host_memory.proofs.Holding.{holds_given, holds_within, holds_due}
 use Rattle.host_memory.proofs.memory.Memory.closer_where_free.Goals as goal
 

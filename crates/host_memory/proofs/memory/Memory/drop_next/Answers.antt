@@ -1,5 +1,5 @@
 use Rattle.std.proofs.Common.{◌∙◌, sym}
-use Rattle.host_memory.specs.State.{history}
+use Rattle.host_memory.specs.{history}
 use Rattle.host_memory.proofs.Remaining.{first_holds}
 use Rattle.host_memory.proofs.memory.Memory.drop_next.Goals as goal
 

@@ -1,13 +1,8 @@
 use Rattle.std.proofs.Common.{◌≡◌, ◌+◌, ◌≤◌, ◌∙◌, [], ◌∷◌, ◌++◌, set, suc, false, sym, ap, subst, arith}
-use Rattle.host_log.specs.Switch.{SwitchedLog}
-use Rattle.host_frames.specs.Seats.{pool_id}
-use Rattle.host_model.specs.declared.memory.MemEntry.{MemEntry}
-use Rattle.host_model.specs.declared.memory.MemEvent.TheVariants.{Fill}
-use Rattle.host_memory.specs.declared.buffer.Buffer.{Buffer}
-use Rattle.host_memory.specs.Entries.{used_room}
-use Rattle.host_memory.specs.Held.{is_released}
-use Rattle.host_memory.specs.Kept.{IsKept}
-use Rattle.host_memory.specs.State.{MemoryState, history, events}
+use Rattle.host_log.specs.{SwitchedLog}
+use Rattle.host_frames.specs.{pool_id}
+use Rattle.host_model.specs.{MemEntry, Fill}
+use Rattle.host_memory.specs.{Buffer, used_room, is_released, IsMemoryKept, MemoryState, history, events}
 use Rattle.host_memory.proofs.Filled.{blocks_within, kept_filled, unreleased}
 use Rattle.host_memory.proofs.Finding.{found_at, found_blocks}
 use Rattle.host_memory.proofs.memory.Memory.fill.Goals as goal
@@ -24,8 +19,8 @@ invariant_of-self c = let m = c.self.inside in let x = c.index_mut.result.now in
     let still : is_released (suc i) (events m.entries.items) ≡ false =
     subst (λ h. is_released (suc i) h ≡ false) (sym seen) (subst (λ v. is_released v (history c.args.self.now) ≡ false) (sym id) (unreleased c.args.id (history c.args.self.now) c.args.block c.args.count found.2)) in
     let room : used_room (events m.entries.items) + 1 ≤ m.limits.room = subst (λ (s : MemoryState). used_room (history s) + 1 ≤ s.plan.limits.room) (sym c.self.view_is) c.requires in (
-      subst (λ (z : SwitchedLog MemEntry). IsKept m.limits pool z m.moves m.pins (set m.buffers.items i c.fill.new.self)) (sym c.push.ensures)
-          (subst (λ (y : Buffer). IsKept m.limits pool (record m.entries { items = m.entries.items ++ record { hand = m.limits.hands; what = Fill c.args.id c.args.block c.args.count c.args.byte } ∷ [] }) m.moves m.pins (set m.buffers.items i y)) (sym c.fill.ensures.same)
+      subst (λ (z : SwitchedLog MemEntry). IsMemoryKept m.limits pool z m.moves m.pins (set m.buffers.items i c.fill.new.self)) (sym c.push.ensures)
+          (subst (λ (y : Buffer). IsMemoryKept m.limits pool (record m.entries { items = m.entries.items ++ record { hand = m.limits.hands; what = Fill c.args.id c.args.block c.args.count c.args.byte } ∷ [] }) m.moves m.pins (set m.buffers.items i y)) (sym c.fill.ensures.same)
           (kept_filled m.limits pool m.entries m.moves m.pins m.buffers.items c.self.invariant.0 i x at still room c.args.id c.args.block c.args.count c.args.byte c.fill.new.self.pages id c.fill.ensures.outline c.fill.ensures.pages)),
       c.self.invariant.1,
       c.self.invariant.2,

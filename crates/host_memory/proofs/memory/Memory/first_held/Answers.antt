@@ -4,9 +4,8 @@ use Rattle.std.specs.Option.{option_map, is_some}
 use Rattle.std.proofs.lemmas.Iterator.{YieldsList-from_slice}
 use Rattle.std.proofs.lemmas.Iterator.Search.{position_from_yields_List}
 use Rattle.std.proofs.lemmas.Iterator.Adapters.{position_from-zero}
-use Rattle.host_frames.specs.Seats.{pool_id}
-use Rattle.host_memory.specs.Held.{first_held}
-use Rattle.host_memory.specs.State.{MemoryState, history, events}
+use Rattle.host_frames.specs.{pool_id}
+use Rattle.host_memory.specs.{first_held, MemoryState, history, events}
 use Rattle.host_memory.proofs.Remaining.{first_is}
 use Rattle.host_memory.proofs.memory.Memory.first_held.Goals as goal
 

@@ -1,9 +1,7 @@
 use Rattle.std.proofs.Common.{◌≡◌, None, subst, sym}
-use Rattle.host_frames.specs.Seats.{pool_id}
-use Rattle.host_model.specs.Lists.{count}
-use Rattle.host_model.specs.Releases.{is_release_of}
-use Rattle.host_memory.specs.Held.{first_held, is_given_by}
-use Rattle.host_memory.specs.State.{MemoryState, history, events}
+use Rattle.host_frames.specs.{pool_id}
+use Rattle.host_model.specs.{count, is_release_of}
+use Rattle.host_memory.specs.{first_held, is_given_by, MemoryState, history, events}
 use Rattle.host_memory.proofs.Remaining.{released_once}
 use Rattle.host_memory.proofs.memory.Memory.into_entries.Goals as goal
 

@@ -1,13 +1,8 @@
 use Rattle.std.proofs.Common.{◌≡◌, ◌≤◌, ◌-◌, ◌∙◌, [], ◌∷◌, ◌++◌, true, suc, length, sym, ap, subst, arith}
-use Rattle.host_memory.specs.Held.{is_block_of}
-use Rattle.host_log.specs.Switch.{SwitchedLog}
-use Rattle.host_frames.specs.Seats.{pool_id}
-use Rattle.host_model.specs.declared.memory.MemEntry.{MemEntry}
-use Rattle.host_model.specs.declared.memory.MemEvent.TheVariants.{Lift}
-use Rattle.host_model.specs.Pages.{page_at}
-use Rattle.host_memory.specs.Kept.{IsKept}
-use Rattle.host_memory.specs.Pins.{is_pinned_by}
-use Rattle.host_memory.specs.State.{MemoryState, history, events, size_of}
+use Rattle.host_memory.specs.{is_block_of, IsMemoryKept, is_pinned_by, MemoryState, history, events, block_size_of}
+use Rattle.host_log.specs.{SwitchedLog}
+use Rattle.host_frames.specs.{pool_id}
+use Rattle.host_model.specs.{MemEntry, Lift, page_at}
 use Rattle.host_memory.proofs.Carrying.{pinned_given, pinned_within, pinned_suc, pinned_at, pinned_still, pinned_block, pinned_long, pinned_own, pinned_page}
 use Rattle.host_memory.proofs.Landed.{kept_lifted}
 use Rattle.host_memory.proofs.memory.Memory.lift.Goals as goal
@@ -39,8 +34,8 @@ invariant_of-self c = let m = c.self.inside in let x = c.index.result.now in let
     let is : keep ≡ page_at m.limits.size (events m.entries.items) (suc i) c.args.block =
     c.in_ok-bytes.ensures ∙ (c.in_ok-piece.ensures ∙ (c.page.ensures ∙ (page ∙ ap (λ v. page_at m.limits.size (events m.entries.items) v c.args.block) (sym id)))) in
     let kept = kept_lifted m.limits pool m.entries m.moves m.pins m.buffers.items c.self.invariant.0 i x at still c.args.hand c.args.index c.args.k c.args.block keep room own is in (
-      subst (λ (z : SwitchedLog MemEntry). IsKept m.limits pool z (m.moves - 1) m.pins m.buffers.items) (sym c.push.ensures)
-          (subst (λ v. IsKept m.limits pool (record m.entries { items = m.entries.items ++ record { hand = c.args.hand; what = Lift c.args.index c.args.k v c.args.block keep } ∷ [] }) (m.moves - 1) m.pins m.buffers.items) id kept),
+      subst (λ (z : SwitchedLog MemEntry). IsMemoryKept m.limits pool z (m.moves - 1) m.pins m.buffers.items) (sym c.push.ensures)
+          (subst (λ v. IsMemoryKept m.limits pool (record m.entries { items = m.entries.items ++ record { hand = c.args.hand; what = Lift c.args.index c.args.k v c.args.block keep } ∷ [] }) (m.moves - 1) m.pins m.buffers.items) id kept),
       c.self.invariant.1,
       c.self.invariant.2,
       c.self.invariant.3,
@@ -54,6 +49,6 @@ returns-clause-bytes c = let m = c.self.inside in let x = c.index.result.now in
     let page = pinned_page m.limits (pool_id m.pool.value) m.entries m.moves m.pins m.buffers.items c.self.invariant.0 c.args.hand c.args.index c.args.id pinned x c.index.ensures c.args.block block in
     let long = pinned_long m.limits (pool_id m.pool.value) m.entries m.moves m.pins m.buffers.items c.self.invariant.0 c.args.hand c.args.index c.args.id pinned x c.index.ensures c.args.block block in
     let held = c.in_ok-piece.ensures ∙ c.page.ensures in (
-      subst (λ (s : MemoryState). c.in_ok-piece.piece ≡ page_at (size_of s) (history s) c.args.id c.args.block) c.self.view_is (held ∙ page),
-      subst (λ (s : MemoryState). length c.in_ok-piece.piece ≡ size_of s) c.self.view_is (ap length held ∙ long),
+      subst (λ (s : MemoryState). c.in_ok-piece.piece ≡ page_at (block_size_of s) (history s) c.args.id c.args.block) c.self.view_is (held ∙ page),
+      subst (λ (s : MemoryState). length c.in_ok-piece.piece ≡ block_size_of s) c.self.view_is (ap length held ∙ long),
     )

@@ -1,12 +1,10 @@
 use Rattle.std.proofs.Common.{◌≡◌, ◌+◌, ◌-◌, [], ◌∷◌, ◌++◌, None, Some, true, set, sym, subst, arith, ◌∙◌, ap}
 use Rattle.std.specs.Option.{is_some}
-use Rattle.host_log.specs.Switch.{SwitchedLog}
-use Rattle.host_frames.specs.Seats.{pool_id}
-use Rattle.host_model.specs.declared.memory.MemEntry.{MemEntry}
+use Rattle.host_log.specs.{SwitchedLog}
+use Rattle.host_frames.specs.{pool_id}
+use Rattle.host_model.specs.{MemEntry}
 use Rattle.host_model.specs.declared.memory.MemEvent.TheVariants as mem
-use Rattle.host_memory.specs.Held.{closer_of, standing_in}
-use Rattle.host_memory.specs.Kept.{IsKept}
-use Rattle.host_memory.specs.State.{MemoryState, history, admissions_of}
+use Rattle.host_memory.specs.{closer_of, standing_in, IsMemoryKept, MemoryState, history, admissions_of}
 use Rattle.host_memory.proofs.Closed.{close_fits, kept_closed}
 use Rattle.host_memory.proofs.Standing.{stands_given, stands_within, stands_suc, stands_held, stands_at, never_closed}
 use Rattle.host_memory.proofs.memory.Memory.mark_closed.Goals as goal
@@ -29,9 +27,9 @@ invariant_of-self c = let m = c.self.inside in let x = c.index_mut.result.now in
     let id = stands_suc m.limits pool m.entries m.moves m.pins m.buffers.items c.self.invariant.0 c.args.id c.args.index stands in
     let number = subst (λ (s : MemoryState). c.args.hand ≡ admissions_of s) (sym c.self.view_is) c.requires.number in
     let kept = kept_closed m.limits pool m.entries m.moves m.pins m.buffers.items c.self.invariant.0 i x at held c.args.index never.0 in (
-      subst (λ (z : SwitchedLog MemEntry). IsKept m.limits pool z m.moves m.pins (set m.buffers.items i (record x { closer = Some c.args.index }))) (sym c.push.ensures)
-          (subst (λ n. IsKept m.limits pool (record m.entries { items = m.entries.items ++ record { hand = n; what = mem.Close c.args.index c.args.id } ∷ [] }) m.moves m.pins (set m.buffers.items i (record x { closer = Some c.args.index }))) (sym number)
-          (subst (λ v. IsKept m.limits pool (record m.entries { items = m.entries.items ++ record { hand = m.limits.hands + 1; what = mem.Close c.args.index v } ∷ [] }) m.moves m.pins (set m.buffers.items i (record x { closer = Some c.args.index }))) id kept)),
+      subst (λ (z : SwitchedLog MemEntry). IsMemoryKept m.limits pool z m.moves m.pins (set m.buffers.items i (record x { closer = Some c.args.index }))) (sym c.push.ensures)
+          (subst (λ n. IsMemoryKept m.limits pool (record m.entries { items = m.entries.items ++ record { hand = n; what = mem.Close c.args.index c.args.id } ∷ [] }) m.moves m.pins (set m.buffers.items i (record x { closer = Some c.args.index }))) (sym number)
+          (subst (λ v. IsMemoryKept m.limits pool (record m.entries { items = m.entries.items ++ record { hand = m.limits.hands + 1; what = mem.Close c.args.index v } ∷ [] }) m.moves m.pins (set m.buffers.items i (record x { closer = Some c.args.index }))) id kept)),
       c.self.invariant.1,
       c.self.invariant.2,
       c.self.invariant.3,

@@ -1,15 +1,9 @@
 use Rattle.std.proofs.Common.{◌≡◌, ◌+◌, ◌-◌, ◌<◌, [], ◌∷◌, ◌++◌, None, true, suc, set, sym, subst, arith, ◌∙◌, ap}
 use Rattle.std.specs.Option.{is_some}
-use Rattle.host_log.specs.Switch.{SwitchedLog}
-use Rattle.host_frames.specs.Seats.{pool_id}
-use Rattle.host_model.specs.declared.memory.MemEntry.{MemEntry}
-use Rattle.host_model.specs.declared.memory.MemEvent.TheVariants.{Pin}
-use Rattle.host_model.specs.Lists.{count}
-use Rattle.host_memory.specs.Entries.{pin_count}
-use Rattle.host_memory.specs.Held.{closer_of, standing_in}
-use Rattle.host_memory.specs.Kept.{IsKept}
-use Rattle.host_memory.specs.Pins.{is_pin_for}
-use Rattle.host_memory.specs.State.{MemoryState, history, events}
+use Rattle.host_log.specs.{SwitchedLog}
+use Rattle.host_frames.specs.{pool_id}
+use Rattle.host_model.specs.{MemEntry, Pin, count}
+use Rattle.host_memory.specs.{pin_count, closer_of, standing_in, IsMemoryKept, is_pin_for, MemoryState, history, events}
 use Rattle.host_memory.proofs.Pinned.{kept_pinned}
 use Rattle.host_memory.proofs.Pinning.{left_few, pins_few}
 use Rattle.host_memory.proofs.Standing.{stands_given, stands_within, stands_suc, stands_held, stands_at, stands_told, never_closed}
@@ -45,8 +39,8 @@ invariant_of-self c = let m = c.self.inside in let x = c.index_mut.result.now in
     let never = never_closed m.limits pool m.entries m.moves m.pins m.buffers.items c.self.invariant.0 c.args.id c.args.index stands x c.index_mut.ensures.value unclosed in
     let id = stands_suc m.limits pool m.entries m.moves m.pins m.buffers.items c.self.invariant.0 c.args.id c.args.index stands in
     let kept = kept_pinned m.limits pool m.entries m.moves m.pins m.buffers.items c.self.invariant.0 c.args.index c.args.by i x at held never.1 first room in (
-      subst (λ (z : SwitchedLog MemEntry). IsKept m.limits pool z m.moves (m.pins + 1) (set m.buffers.items i (record x { pins = x.pins + 1 }))) (sym c.push.ensures)
-          (subst (λ v. IsKept m.limits pool (record m.entries { items = m.entries.items ++ record { hand = m.limits.hands + 1; what = Pin c.args.index v c.args.by } ∷ [] }) m.moves (m.pins + 1) (set m.buffers.items i (record x { pins = x.pins + 1 }))) id kept),
+      subst (λ (z : SwitchedLog MemEntry). IsMemoryKept m.limits pool z m.moves (m.pins + 1) (set m.buffers.items i (record x { pins = x.pins + 1 }))) (sym c.push.ensures)
+          (subst (λ v. IsMemoryKept m.limits pool (record m.entries { items = m.entries.items ++ record { hand = m.limits.hands + 1; what = Pin c.args.index v c.args.by } ∷ [] }) m.moves (m.pins + 1) (set m.buffers.items i (record x { pins = x.pins + 1 }))) id kept),
       c.self.invariant.1,
       c.self.invariant.2,
       c.self.invariant.3,

@@ -1,8 +1,7 @@
 use Rattle.std.proofs.Common.{◌≡◌, ◌==◌, false, None, subst, arith}
 use Rattle.std.specs.List.{list_any}
-use Rattle.host_model.specs.Releases.{buffer_of}
-use Rattle.host_memory.specs.Held.{attachment_of}
-use Rattle.host_memory.specs.State.{MemoryState, history, events}
+use Rattle.host_model.specs.{buffer_of}
+use Rattle.host_memory.specs.{attachment_of, MemoryState, history, events}
 use Rattle.host_memory.proofs.Absent.{absent_attachment}
 use Rattle.host_memory.proofs.memory.Memory.place.Goals as goal
 use Rattle.host_memory.proofs.memory.Memory.place.Goals.{else-id-ge1-via-then-id-ge1+else-id-len, else-id-ge1-via-else-id-ge1}

@@ -1,10 +1,8 @@
 use Rattle.std.proofs.Common.{◌≡◌, ◌<◌, suc, true, false, length, refl, sym, subst, ◌∙◌, arith}
 use Rattle.std.specs.Prelude.{slice_get, Some}
 use Rattle.std.proofs.lemmas.Option.{slice_get_read}
-use Rattle.host_frames.specs.Seats.{pool_id}
-use Rattle.host_memory.specs.Entries.{given_count}
-use Rattle.host_memory.specs.Held.{has_blocks}
-use Rattle.host_memory.specs.State.{MemoryState, history, events}
+use Rattle.host_frames.specs.{pool_id}
+use Rattle.host_memory.specs.{given_count, has_blocks, MemoryState, history, events}
 use Rattle.host_memory.proofs.Seeing.{has_blocks_is}
 use Rattle.host_memory.proofs.memory.Memory.place_of_blocks.Goals as goal
 

@@ -1,15 +1,9 @@
 use Rattle.std.proofs.Common.{◌≡◌, ◌+◌, ◌≤◌, ◌∙◌, [], ◌∷◌, ◌++◌, suc, Some, false, sym, ap, subst, arith, flat_map}
 use Rattle.std.specs.List.{range_with_len}
-use Rattle.host_log.specs.Switch.{SwitchedLog}
-use Rattle.host_frames.specs.Seats.{pool_id}
-use Rattle.host_model.specs.declared.memory.MemEntry.{MemEntry}
-use Rattle.host_model.specs.declared.memory.MemEvent.TheVariants.{Show}
-use Rattle.host_model.specs.Pages.{found_by, page_at}
-use Rattle.host_memory.specs.Entries.{used_room}
-use Rattle.host_memory.specs.Held.{is_released}
-use Rattle.host_memory.specs.Kept.{IsKept}
-use Rattle.host_memory.specs.PagesHeld.{page_held}
-use Rattle.host_memory.specs.State.{MemoryState, history, events, size_of}
+use Rattle.host_log.specs.{SwitchedLog}
+use Rattle.host_frames.specs.{pool_id}
+use Rattle.host_model.specs.{MemEntry, Show, found_by, page_at}
+use Rattle.host_memory.specs.{used_room, is_released, IsMemoryKept, page_held, MemoryState, history, events, block_size_of}
 use Rattle.host_memory.proofs.Filled.{blocks_within, unreleased}
 use Rattle.host_memory.proofs.Finding.{found_at, found_blocks, found_told}
 use Rattle.host_memory.proofs.Landed.{kept_shown}
@@ -34,8 +28,8 @@ invariant_of-self c = let m = c.self.inside in let x = c.index.result.now in let
     subst (λ h. is_released (suc i) h ≡ false) (sym seen) (subst (λ v. is_released v (history c.args.self.now) ≡ false) (sym id) (unreleased c.args.id (history c.args.self.now) c.args.block c.args.count found.2)) in
     let room : used_room (events m.entries.items) + 1 ≤ m.limits.room = subst (λ (s : MemoryState). used_room (history s) + 1 ≤ s.plan.limits.room) (sym c.self.view_is) c.requires.room in
     let kept = kept_shown m.limits pool m.entries m.moves m.pins m.buffers.items c.self.invariant.0 i x at still c.args.block c.args.count room in (
-      subst (λ (z : SwitchedLog MemEntry). IsKept m.limits pool z m.moves m.pins m.buffers.items) (sym c.push.ensures)
-          (subst (λ v. IsKept m.limits pool (record m.entries { items = m.entries.items ++ record { hand = m.limits.hands; what = Show v c.args.block c.args.count } ∷ [] }) m.moves m.pins m.buffers.items) id kept),
+      subst (λ (z : SwitchedLog MemEntry). IsMemoryKept m.limits pool z m.moves m.pins m.buffers.items) (sym c.push.ensures)
+          (subst (λ v. IsMemoryKept m.limits pool (record m.entries { items = m.entries.items ++ record { hand = m.limits.hands; what = Show v c.args.block c.args.count } ∷ [] }) m.moves m.pins m.buffers.items) id kept),
       c.self.invariant.1,
       c.self.invariant.2,
       c.self.invariant.3,
@@ -50,5 +44,5 @@ returns-clause-bytes c = let m = c.self.inside in let x = c.index.result.now in 
     (sym (found_blocks m.limits (pool_id m.pool.value) m.entries m.moves m.pins m.buffers.items c.self.invariant.0 (history c.args.self.now) seen i c.args.id x found.0 found.1 c.index.ensures c.args.block c.args.count) ∙ found.2) in
     let same : flat_map (page_held x.pages) (range_with_len c.args.block c.args.count) ≡ flat_map (λ n. page_at m.limits.size h c.args.id n) (range_with_len c.args.block c.args.count) =
     same_blocks (page_held x.pages) (λ n. page_at m.limits.size h c.args.id n) c.args.block c.args.count (λ k lt. told.bytes k (omega arith) ∙ ap (λ v. page_at m.limits.size h v k) id) in
-    (λ is. subst (λ (s : MemoryState). found_by (size_of s) (history s) (Show c.args.id c.args.block c.args.count) ≡ Some c.show.new.into) c.self.view_is
+    (λ is. subst (λ (s : MemoryState). found_by (block_size_of s) (history s) (Show c.args.id c.args.block c.args.count) ≡ Some c.show.new.into) c.self.view_is
     (ap (λ l. Some l) (sym same ∙ sym c.show.ensures)))

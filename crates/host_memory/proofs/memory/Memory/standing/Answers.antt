@@ -1,6 +1,6 @@
 use Rattle.std.proofs.Common.{◌∙◌, sym, ap}
-use Rattle.host_frames.specs.Seats.{pool_id}
-use Rattle.host_memory.specs.State.{MemoryState, history}
+use Rattle.host_frames.specs.{pool_id}
+use Rattle.host_memory.specs.{MemoryState, history}
 use Rattle.host_memory.proofs.Finding.{found_standing}
 use Rattle.host_memory.proofs.memory.Memory.standing.Goals as goal
 

@@ -1,12 +1,8 @@
 use Rattle.std.proofs.Common.{◌≡◌, ◌-◌, [], ◌∷◌, ◌++◌, true, set, sym, subst, arith, ◌∙◌, ap}
-use Rattle.host_log.specs.Switch.{SwitchedLog}
-use Rattle.host_frames.specs.Seats.{pool_id}
-use Rattle.host_model.specs.declared.memory.MemEntry.{MemEntry}
-use Rattle.host_model.specs.declared.memory.MemEvent.TheVariants.{Done}
-use Rattle.host_memory.specs.Held.{holds_pages}
-use Rattle.host_memory.specs.Kept.{IsKept}
-use Rattle.host_memory.specs.Pins.{is_pinned_by}
-use Rattle.host_memory.specs.State.{MemoryState, history, events}
+use Rattle.host_log.specs.{SwitchedLog}
+use Rattle.host_frames.specs.{pool_id}
+use Rattle.host_model.specs.{MemEntry, Done}
+use Rattle.host_memory.specs.{holds_pages, IsMemoryKept, is_pinned_by, MemoryState, history, events}
 use Rattle.host_memory.proofs.Carrying.{pinned_given, pinned_within, pinned_suc, pinned_at, pinned_some, pinned_still, pinned_holds}
 use Rattle.host_memory.proofs.Unpinned.{done_fits, kept_unpinned, left_some}
 use Rattle.host_memory.proofs.memory.Memory.unpin.Goals as goal
@@ -49,8 +45,8 @@ invariant_of-self c = let m = c.self.inside in let x = c.index_mut.result.now in
     let id = pinned_suc m.limits pool m.entries m.moves m.pins m.buffers.items c.self.invariant.0 c.args.hand c.args.index c.args.id pinned in
     let here = subst (λ v. is_pinned_by c.args.hand c.args.index v (events m.entries.items) ≡ true) (sym id) pinned in
     let kept = kept_unpinned m.limits pool m.entries m.moves m.pins m.buffers.items c.self.invariant.0 c.args.hand c.args.index i x at still here in (
-      subst (λ (z : SwitchedLog MemEntry). IsKept m.limits pool z m.moves (m.pins - 1) (set m.buffers.items i (record x { pins = x.pins - 1 }))) (sym c.push.ensures)
-          (subst (λ v. IsKept m.limits pool (record m.entries { items = m.entries.items ++ record { hand = c.args.hand; what = Done c.args.index v } ∷ [] }) m.moves (m.pins - 1) (set m.buffers.items i (record x { pins = x.pins - 1 }))) id kept),
+      subst (λ (z : SwitchedLog MemEntry). IsMemoryKept m.limits pool z m.moves (m.pins - 1) (set m.buffers.items i (record x { pins = x.pins - 1 }))) (sym c.push.ensures)
+          (subst (λ v. IsMemoryKept m.limits pool (record m.entries { items = m.entries.items ++ record { hand = c.args.hand; what = Done c.args.index v } ∷ [] }) m.moves (m.pins - 1) (set m.buffers.items i (record x { pins = x.pins - 1 }))) id kept),
       c.self.invariant.1,
       c.self.invariant.2,
       c.self.invariant.3,

@@ -1,11 +1,8 @@
 use Rattle.std.proofs.Common.{◌≡◌, ◌≤◌, filter_map, length, true, subst}
 use Rattle.std.specs.List.{list_all}
-use Rattle.host_frames.specs.Seats.{pool_id}
-use Rattle.host_model.specs.Lists.{count}
-use Rattle.host_memory.specs.Held.{attachment_by, page_count_of}
-use Rattle.host_memory.specs.Numbers.{is_by_its_hand, is_numbered}
-use Rattle.host_memory.specs.Pins.{is_pin_for}
-use Rattle.host_memory.specs.State.{MemoryState, admissions_of, client_of, events, history}
+use Rattle.host_frames.specs.{pool_id}
+use Rattle.host_model.specs.{count}
+use Rattle.host_memory.specs.{attachment_by, page_count_of, is_by_its_hand, is_numbered, is_pin_for, MemoryState, admissions_of, client_of, events, history}
 use Rattle.host_memory.proofs.Present.{attached_once, few_pages}
 use Rattle.host_memory.proofs.memory.Memory.vouch.Goals as goal
 

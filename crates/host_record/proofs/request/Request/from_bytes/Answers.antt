@@ -1,6 +1,6 @@
 use Rattle.std.proofs.Common.{◌≡◌, ◌∙◌, List, ℕ, ap, length, rules}
 use Rattle.byteorder.specs.Endian.{little_number}
-use Rattle.host_record.specs.Request.{request_bytes, request_of}
+use Rattle.host_record.specs.{request_bytes, request_of}
 use Rattle.host_record.proofs.RequestLemmas.{bytes_of_request, same_request, up_to_end}
 use Rattle.host_record.proofs.request.Request.from_bytes.Goals as goal
 

@@ -1,6 +1,6 @@
 -- The bytes that the fields were read from are the bytes of the response.
 use Rattle.std.proofs.Common.{rules, ap, ◌∙◌, sym, arith}
-use Rattle.host_record.specs.Response.{response_bytes}
+use Rattle.host_record.specs.{response_bytes}
 use Rattle.host_record.proofs.ResponseLemmas.{bytes_of_response}
 use Rattle.host_record.proofs.response.Response.from_bytes.Goals as goal
 

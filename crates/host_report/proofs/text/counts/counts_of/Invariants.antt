@@ -1,5 +1,5 @@
 use Rattle.std.proofs.Common.{◌≡◌, ◌*◌, ◌≤◌, take}
-use Rattle.host_report.specs.Summary.{answers_received, failed_answers, good_answers, records_sent}
+use Rattle.host_report.specs.{answers_received, failed_answers, good_answers, records_sent}
 use Rattle.host_report.proofs.text.counts.counts_of.Given as goal
 
 abbrev pub invariant-loop-session : goal.invariant-loop-session

@@ -1,7 +1,7 @@
 use Rattle.std.proofs.Common.{◌≡◌, ◌<◌, ℕ, length, get_or, arith}
 use Rattle.std.proofs.lemmas.List.FromFn.{get_or-range_with_len, length-range_with_len}
-use Rattle.host_model.specs.Lists.{below}
-use Rattle.host_report.specs.LogText.{shown_line}
+use Rattle.host_model.specs.{below}
+use Rattle.host_report.specs.{shown_line}
 use Rattle.host_text.proofs.Putting.{adds_all, adds_at, puts_exit, stops_at}
 use Rattle.host_report.proofs.text.event.write_blocks.Goals as goal
 

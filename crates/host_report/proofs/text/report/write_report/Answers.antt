@@ -1,7 +1,7 @@
 use Rattle.std.proofs.Common.{◌≡◌, [], List, ℕ, subst, append-nil}
 use Rattle.std.proofs.lemmas.Result.{IfOk-from_err}
-use Rattle.host_report.specs.Text.{report_text}
-use Rattle.host_text.specs.Writing.{Puts}
+use Rattle.host_report.specs.{report_text}
+use Rattle.host_text.specs.{PutsHeldText}
 use Rattle.host_text.proofs.Putting.{finished, puts_after, puts_exit}
 use Rattle.host_report.proofs.text.report.write_report.Goals as goal
 
@@ -16,7 +16,7 @@ returns-in_err-write_text g c =
 pub returns : goal.returns
 returns g c =
     let r = c.send.result in
-    let p = subst (λ (l : List ℕ). Puts g.K.Sink.tells g.K.Sink.faults g.K.Sink.appended c.args.out.now [] c.send.new.out c.send.new.self l r)
+    let p = subst (λ (l : List ℕ). PutsHeldText g.K.Sink.tells g.K.Sink.faults g.K.Sink.appended c.args.out.now [] c.send.new.out c.send.new.self l r)
     (append-nil (report_text c.args.report.now c.args.steps))
     (puts_after _ _ _ _ (rw c.new-held.ensures at c.in_ok-write_text.ensures) c.send.ensures.text) in
     let f = finished g.K.Sink.tells g.K.Sink.faults g.K.Sink.appended c.args.out.now c.send.new.out c.send.new.self (report_text c.args.report.now c.args.steps) r p c.send.ensures.empty in

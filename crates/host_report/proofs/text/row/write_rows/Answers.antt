@@ -1,10 +1,10 @@
 use Rattle.std.proofs.Common.{◌≡◌, ◌<◌, ℕ, List, length, get_or, zero-add, sym, ap, ◌∙◌, arith}
 use Rattle.std.proofs.lemmas.List.FromFn.{get_or-enumerate_from, length-enumerate_from}
 use Rattle.std.specs.List.{enumerate_from}
-use Rattle.host_model.specs.declared.row.TakenRow.{TakenRow}
+use Rattle.host_model.specs.{TakenRow}
 use Rattle.host_model.specs.declared.verdict.Verdict.TheVariants as verdict
 use Rattle.host_record.specs.declared.status.Status.TheVariants as status
-use Rattle.host_report.specs.StepText.{row_line}
+use Rattle.host_report.specs.{row_line}
 use Rattle.host_text.proofs.Putting.{adds_all, adds_at, puts_exit, stops_at}
 use Rattle.host_report.proofs.text.row.write_rows.Goals as goal
 

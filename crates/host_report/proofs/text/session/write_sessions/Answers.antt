@@ -1,5 +1,5 @@
 use Rattle.std.proofs.Common.{arith}
-use Rattle.host_report.specs.Text.{session_text}
+use Rattle.host_report.specs.{session_text}
 use Rattle.host_text.proofs.Putting.{adds_at, puts_exit, stops_at}
 use Rattle.host_report.proofs.text.session.write_sessions.Goals as goal
 

@@ -1,5 +1,5 @@
 use Rattle.std.proofs.Common.{arith}
-use Rattle.host_report.specs.StepText.{step_line}
+use Rattle.host_report.specs.{step_line}
 use Rattle.host_text.proofs.Putting.{adds_at, puts_exit, stops_at}
 use Rattle.host_report.proofs.text.step.write_steps.Goals as goal
 

@@ -1,5 +1,5 @@
 use Rattle.std.proofs.Common.{rules, length, ap, sym, ◌∙◌, ◌<◌, subst}
-use Rattle.host_rings.specs.RequestEnds.{SenderState}
+use Rattle.host_rings.specs.{SenderState}
 use Rattle.host_rings.proofs.RequestMoves.{pushes, finds_full}
 use Rattle.host_rings.proofs.sender.Sender.push.Goals as goal
 use Rattle.host_rings.proofs.sender.Sender.push.Goals.{in-Ok, in-Err}

@@ -1,5 +1,5 @@
 use Rattle.std.proofs.Common.{ap}
-use Rattle.host_rings.specs.declared.answer_view.AnswerView.{AnswerView}
+use Rattle.host_rings.specs.{AnswerView}
 use Rattle.host_rings.proofs.AnswerMoves.{makes}
 use Rattle.host_rings.proofs.slip_taker.SlipTaker.make_sender.Goals as goal
 

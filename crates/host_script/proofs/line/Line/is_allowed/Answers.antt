@@ -1,6 +1,6 @@
 use Rattle.std.specs.List.{list_all}
 use Rattle.std.proofs.lemmas.List.Folds.{list_all-map}
-use Rattle.script_model.specs.Words.{is_allowed}
+use Rattle.script_model.specs.{is_allowed}
 use Rattle.host_script.proofs.line.Line.is_allowed.Goals as goal
 
 pub returns : goal.returns

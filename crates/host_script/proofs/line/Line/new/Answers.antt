@@ -4,7 +4,7 @@ use Rattle.std.specs.declared.alloc.AllocError.{AllocError}
 use Rattle.std.proofs.lemmas.Iterator.Consumers.{map_from_collect, YieldsList-from_filter, YieldsList-at}
 use Rattle.std.proofs.lemmas.Iterator.Splits.{YieldsList-from_slice_split}
 use Rattle.std.proofs.lemmas.Iterator.Search.{YieldsList-from_take_while}
-use Rattle.script_model.specs.Words.{is_blank, begins_comment}
+use Rattle.script_model.specs.{is_blank, begins_comment}
 use Rattle.host_script.proofs.line.Line.new.Goals as goal
 
 pub returns : goal.returns

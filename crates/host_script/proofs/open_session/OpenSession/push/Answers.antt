@@ -1,5 +1,5 @@
 use Rattle.std.proofs.Common.{◌+◌, length, length-append, ap, sym, ◌∙◌, arith}
-use Rattle.script_model.specs.Owed.{owed as owed_by}
+use Rattle.script_model.specs.{owed as owed_by}
 use Rattle.host_script.proofs.Owed.{owed_with, owed_without, owed_at_most}
 use Rattle.host_script.proofs.open_session.OpenSession.push.Goals as goal
 

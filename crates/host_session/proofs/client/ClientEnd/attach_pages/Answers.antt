@@ -1,13 +1,7 @@
 use Rattle.std.proofs.Common.{◌≡◌, ℕ, ◌+◌, ◌≤◌, ◌<◌, [], ◌∷◌, ◌++◌, length, None, ap, sym, subst, ◌∙◌}
-use Rattle.host_memory.specs.declared.limits.MemoryPlan.{MemoryPlan}
-use Rattle.host_memory.specs.Entries.{given_count}
-use Rattle.host_memory.specs.State.{client_of, history}
-use Rattle.host_model.specs.declared.memory.MemEvent.TheVariants.{Attach}
-use Rattle.host_model.specs.Log.{given}
-use Rattle.host_session.specs.Calls.{IsAttached}
-use Rattle.host_session.specs.Client.{ClientState, room_left}
-use Rattle.host_session.specs.ClientFields.{client_state}
-use Rattle.host_session.specs.Plan.{id_limit}
+use Rattle.host_memory.specs.{MemoryPlan, given_count, client_of, history}
+use Rattle.host_model.specs.{Attach, given}
+use Rattle.host_session.specs.{HasAttachedBuffer, ClientState, room_left, client_state, id_limit}
 use Rattle.host_session.proofs.Entered.{given_so_far, plan_is, room_for_three}
 use Rattle.host_session.proofs.Logged.{log_fits}
 use Rattle.host_session.proofs.Visited.{attached_answer, attached_kept}
@@ -54,8 +48,8 @@ returns g c =
     let f = c.attach-id.ensures in
     let running : a.finish ≡ None = ap (λ (s : ClientState). s.finish) c.self.view_is ∙ c.requires.open in
     let new : ClientState = client_state (record a { log = c.push.new.self; given = a.given + 1; fronts = record { device = a.fronts.device; memory = c.length-self-inside.result }; memory_seat = c.leave.new.seat }) in
-    subst (λ (p : ℕ). IsAttached p c.attach-id.result c.args.self.now new) c.len-pages.ensures
-    (subst (λ (s : ClientState). IsAttached c.len-pages.result c.attach-id.result s new) c.self.view_is
+    subst (λ (p : ℕ). HasAttachedBuffer p c.attach-id.result c.args.self.now new) c.len-pages.ensures
+    (subst (λ (s : ClientState). HasAttachedBuffer c.len-pages.result c.attach-id.result s new) c.self.view_is
     (attached_answer a c.self.invariant c.enter_past-memory.new.seat m e.seat.0 e.story e.later e.fixed_part e.past c.vouch.ensures.numbers running (subst (λ (x : ClientState). 1 ≤ room_left x) (sym c.self.view_is) c.requires.room)
     c.attach-id.result c.len-pages.result c.attach-id.new.self c.leave.new.seat c.push.new.self c.length-self-inside.result
     f.id (subst (λ (p : ℕ). c.attach-id.new.self ≡ record m { entries = m.entries ++ record { hand = client_of m; what = Attach c.attach-id.result p a.sent } ∷ [] }) (sym c.len-pages.ensures) f.entry)

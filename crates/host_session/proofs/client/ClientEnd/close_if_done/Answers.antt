@@ -1,11 +1,9 @@
 use Rattle.std.proofs.Common.{◌≡◌, ◌&&◌, false, true, cond, nat_lt, IsSome, inr, sym, ap, subst, ◌∙◌}
-use Rattle.host_log.specs.Switch.{SwitchedLog}
-use Rattle.host_model.specs.declared.event.Event.{Event}
-use Rattle.host_session.specs.Client.{ClientState, is_aborted, is_drained}
-use Rattle.host_session.specs.ClientFields.{client_state}
-use Rattle.host_session.specs.Closing.{IsClosing, IsStillOpen}
-use Rattle.host_session.specs.Endings.{owed_count}
-use Rattle.host_session.proofs.EndedFields.{abort_kept, aborted_else, closed_answer, drain_event, drain_kept, no_event, none_ended, not_false, not_true, open_answer, open_kept, waiting_answer}
+use Rattle.host_log.specs.{SwitchedLog}
+use Rattle.host_model.specs.{Event}
+use Rattle.host_session.specs.{ClientState, is_aborted, is_drained, client_state, IsClosing, IsStillOpen, owed_count}
+use Rattle.host_session.proofs.EndedFields.{abort_kept, aborted_else, closed_answer, drain_event, drain_kept, no_event, none_ended, open_answer, open_kept, waiting_answer}
+use Rattle.host_log.proofs.Bools.{not_false, not_true}
 use Rattle.host_session.proofs.Logged.{end_fits}
 use Rattle.host_session.proofs.Shutting.{when_false, when_true}
 use Rattle.host_session.proofs.client.ClientEnd.close_if_done.Goals as goal

@@ -1,8 +1,6 @@
 use Rattle.std.proofs.Common.{◌≡◌, not, length, filter, ap, arith}
-use Rattle.host_model.specs.declared.event.Event.{Event}
-use Rattle.host_model.specs.Lists.{count}
-use Rattle.host_model.specs.Taking.{is_end}
-use Rattle.host_session.specs.Client.{ClientState, ends_logged}
+use Rattle.host_model.specs.{Event, count, is_end}
+use Rattle.host_session.specs.{ClientState, ends_logged}
 use Rattle.host_session.proofs.Times.{count_split}
 use Rattle.host_session.proofs.client.ClientEnd.event_count.Goals as goal
 

@@ -1,5 +1,5 @@
 use Rattle.std.proofs.Common.{◌≤◌, sym, subst, ◌∙◌}
-use Rattle.host_session.specs.Client.{ClientState, room_left}
+use Rattle.host_session.specs.{ClientState, room_left}
 use Rattle.host_session.proofs.Logged.{log_fits, received_kept, thrown_kept}
 use Rattle.host_session.proofs.client.ClientEnd.recv.Goals as goal
 

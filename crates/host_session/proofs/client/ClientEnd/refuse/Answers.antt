@@ -1,7 +1,6 @@
 use Rattle.std.proofs.Common.{◌≡◌, ◌≤◌, None, IsTrue, ap, sym, subst, ◌∙◌}
-use Rattle.host_model.specs.declared.event.Event.TheVariants.{NotAttached}
-use Rattle.host_model.specs.Taking.{runs_out_rightly}
-use Rattle.host_session.specs.Client.{ClientState, room_left}
+use Rattle.host_model.specs.{NotAttached, runs_out_rightly}
+use Rattle.host_session.specs.{ClientState, room_left}
 use Rattle.host_session.proofs.Logged.{log_fits, refused_kept}
 use Rattle.host_session.proofs.client.ClientEnd.refuse.Goals as goal
 

@@ -1,7 +1,6 @@
 use Rattle.std.proofs.Common.{◌≤◌, ◌<◌, length, sym, subst, ◌∙◌, arith}
-use Rattle.host_model.specs.Log.{sent}
-use Rattle.host_session.specs.Client.{ClientState, room_left}
-use Rattle.host_session.specs.ClientFields.{client_state}
+use Rattle.host_model.specs.{sent}
+use Rattle.host_session.specs.{ClientState, room_left, client_state}
 use Rattle.host_session.proofs.Logged.{log_fits, none_there, owed_fits, sent_kept}
 use Rattle.host_session.proofs.client.ClientEnd.send.Goals as goal
 

@@ -1,7 +1,5 @@
 use Rattle.std.proofs.Common.{◌≡◌, ◌≤◌, None, ap, sym, subst, ◌∙◌}
-use Rattle.host_session.specs.Calls.{IsShown}
-use Rattle.host_session.specs.Client.{ClientState, room_left}
-use Rattle.host_session.specs.ClientFields.{client_state}
+use Rattle.host_session.specs.{IsShown, ClientState, room_left, client_state}
 use Rattle.host_session.proofs.Entered.{room_for_one}
 use Rattle.host_session.proofs.Logged.{log_fits}
 use Rattle.host_session.proofs.Visited.{shown_answer, shown_kept}

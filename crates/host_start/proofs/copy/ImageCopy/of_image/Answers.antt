@@ -1,6 +1,6 @@
 use Rattle.std.proofs.Common.{◌≡◌, ◌∙◌, ℕ, ◌<◌, List, length, arith, ap, sym, subst}
-use Rattle.host_block.specs.Disk.{IsOfSize}
-use Rattle.host_io.specs.Disks.{Shape}
+use Rattle.host_block.specs.{IsOfSize}
+use Rattle.host_io.specs.{Shape}
 use Rattle.host_start.proofs.CopyLemmas.{copied_image, length-image_in, length-image_of, some_bytes}
 use Rattle.host_start.proofs.copy.ImageCopy.of_image.Goals as goal
 

@@ -1,10 +1,10 @@
 use Rattle.std.proofs.Common.{◌∙◌, List, length, refl, sym, ap, arith}
-use Rattle.host_gpt.specs.Image.{current_image}
+use Rattle.host_gpt.specs.{current_image}
 use Rattle.host_gpt.proofs.BlockLemmas.{image_length}
-use Rattle.host_part.specs.Served.{layout_of}
+use Rattle.host_part.specs.{layout_of}
 use Rattle.host_start.proofs.PlaceLemmas.{all_placed, layout_on, one_lacking}
 use Rattle.host_start.proofs.ReadLemmas.{few_sessions}
-use Rattle.script_model.specs.declared.script.SessionScript.{SessionScript}
+use Rattle.script_model.specs.{SessionScript}
 use Rattle.host_start.proofs.start.Start.on.Goals as goal
 
 pub find_places-requires-clause-few : goal.find_places-requires-clause-few

@@ -3,9 +3,8 @@ use Rattle.std.specs.Prelude.{Option}
 use Rattle.std.specs.Option.{option_to_list}
 use Rattle.std.specs.List.{All}
 use Rattle.std.specs.Slots.{slots_items}
-use Rattle.host_turn.specs.declared.seat.BookSeat.{BookSeat}
-use Rattle.host_turn.specs.History.{entries_of, Continues}
-use Rattle.host_turn.specs.Seats.{HasGathered, number, seen_by, IsSeenBySome, member_of, seat_count, opening_of}
+use Rattle.host_turn.specs.{BookSeat, HasGathered, number, seen_by, IsSeenBySome, member_of, seat_count, opening_of}
+use Rattle.host_log.specs.{entries_of, Continues}
 use Rattle.host_turn.proofs.SeatLists.{closing, some_same, is_some}
 use Rattle.host_turn.proofs.book.Book.close.Goals as goal
 

@@ -1,5 +1,5 @@
-use Rattle.host_turn.specs.History.{Continues}
-use Rattle.host_turn.specs.Seats.{IsSeatOf, IsOutside, IsSameSeat, number, seen_by}
+use Rattle.host_log.specs.{Continues}
+use Rattle.host_turn.specs.{IsSeatOf, IsOutside, IsSameSeat, number, seen_by}
 use Rattle.host_turn.proofs.book.Book.enter_past.Given as goal
 
 abbrev pub invariant-loop : goal.invariant-loop

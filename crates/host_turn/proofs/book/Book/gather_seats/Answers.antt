@@ -1,8 +1,7 @@
 use Rattle.std.proofs.Common.{◌≡◌, ◌+◌, ℕ, [], ◌∷◌, ◌++◌, length, map, ap, sym, subst, arith, ◌∙◌, append_assoc}
 use Rattle.std.specs.Prelude.{Some}
 use Rattle.std.proofs.lemmas.List.Elements.{All-pop}
-use Rattle.host_turn.specs.Views.{is_at_rest}
-use Rattle.host_turn.specs.Seats.{IsSeatOutside, HasGathered, member_of}
+use Rattle.host_turn.specs.{is_at_rest, IsSeatOutside, HasGathered, member_of}
 use Rattle.host_turn.proofs.Seating.{gathers}
 use Rattle.host_turn.proofs.SeatLists.{one_more_gathered}
 use Rattle.host_turn.proofs.book.Book.gather_seats.Goals as goal

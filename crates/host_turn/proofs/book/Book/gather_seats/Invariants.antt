@@ -1,7 +1,6 @@
 use Rattle.std.proofs.Common.{◌≡◌, ◌+◌, List, [], ◌∷◌, ◌++◌, map, length, vec_len}
 use Rattle.std.specs.List.{All}
-use Rattle.host_turn.specs.declared.seat.BookSeat.{BookSeat}
-use Rattle.host_turn.specs.Seats.{IsSeatOutside, HasGathered, member_of}
+use Rattle.host_turn.specs.{BookSeat, IsSeatOutside, HasGathered, member_of}
 use Rattle.host_turn.proofs.book.Book.gather_seats.Given as goal
 
 abbrev pub invariant-loop-seat : goal.invariant-loop-seat

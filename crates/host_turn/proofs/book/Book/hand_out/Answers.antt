@@ -1,5 +1,5 @@
 use Rattle.std.proofs.Common.{ℕ, arith, subst}
-use Rattle.host_turn.specs.Seats.{IsNewSeat, book_id, opening_of}
+use Rattle.host_turn.specs.{IsNewSeat, book_id, opening_of}
 use Rattle.host_turn.proofs.SeatLists.{seats_pop}
 use Rattle.host_turn.proofs.book.Book.hand_out.Goals as goal
 

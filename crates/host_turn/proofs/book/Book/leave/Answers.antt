@@ -1,8 +1,7 @@
 use Rattle.std.proofs.Common.{ℕ, List, arith, ap, ap₂, ◌∙◌}
-use Rattle.host_turn.specs.History.{entries_of}
-use Rattle.host_turn.specs.Steps.{held_history}
-use Rattle.host_turn.specs.Seats.{number, seen_by}
-use Rattle.host_turn.proofs.Histories.{own_left}
+use Rattle.host_log.specs.{entries_of}
+use Rattle.host_turn.specs.{held_history, number, seen_by}
+use Rattle.host_log.proofs.Histories.{own_left}
 use Rattle.host_turn.proofs.Stepping.{hands_on}
 use Rattle.host_turn.proofs.book.Book.leave.Goals as goal
 

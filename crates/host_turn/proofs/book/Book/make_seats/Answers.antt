@@ -1,5 +1,5 @@
 use Rattle.std.proofs.Common.{◌≡◌, ◌-◌, ◌+◌, ℕ, length, sym, subst, arith}
-use Rattle.host_turn.specs.Seats.{IsMaker, AreNewSeats, book_id, opening_of}
+use Rattle.host_turn.specs.{IsMaker, AreNewSeats, book_id, opening_of}
 use Rattle.host_turn.proofs.Seating.{makes}
 use Rattle.host_turn.proofs.SeatLists.{one_seat_more, seat_made}
 use Rattle.host_turn.proofs.book.Book.make_seats.Goals as goal

@@ -1,9 +1,7 @@
 use Rattle.std.proofs.Common.{◌≡◌, List, [], ◌∷◌, ◌++◌, arith, ap, subst, sym, ◌∙◌}
 use Rattle.std.specs.Prelude.{Option, Some}
 use Rattle.atomic_table.specs.Table.{opening}
-use Rattle.host_turn.specs.declared.rule.Opening.{Opening}
-use Rattle.host_turn.specs.Rule.{OneHistory, first_view}
-use Rattle.host_turn.specs.Seats.{AreNewSeats}
+use Rattle.host_turn.specs.{Opening, OneHistory, first_view, AreNewSeats}
 use Rattle.host_turn.proofs.Seating.{opens}
 use Rattle.host_turn.proofs.book.Book.new.Goals as goal
 

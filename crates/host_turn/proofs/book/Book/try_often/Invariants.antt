@@ -1,5 +1,5 @@
 use Rattle.std.proofs.Common.{◌≡◌}
-use Rattle.host_turn.specs.Seats.{IsWaiting, IsSameSeat, seen_by}
+use Rattle.host_turn.specs.{IsWaiting, IsSameSeat, seen_by}
 use Rattle.host_turn.proofs.book.Book.try_often.Given as goal
 
 abbrev pub invariant-loop : goal.invariant-loop

@@ -1,7 +1,6 @@
-use Rattle.host_worker.specs.Finishes.{AreToEnd}
+use Rattle.host_worker.specs.{AreToEnd, AreEnded, ends_seen, hand_end}
 use Rattle.std.proofs.Common.{map, sym, subst, Bool, ◌∙◌}
-use Rattle.host_device.specs.Seen.{shape_of, steps_of}
-use Rattle.host_worker.specs.Ends.{AreEnded, ends_seen, hand_end}
+use Rattle.host_device.specs.{shape_of, steps_of}
 use Rattle.host_worker.proofs.Finishing.{finished, to_end}
 use Rattle.host_worker.proofs.Unroomed.{all_back, all_device_seats, all_pool_seats, device_seats_are, device_seats_outside, ends_kept, ends_room, pool_seats_are, pool_seats_of_it, room_for, room_kept, room_of_all, shares_fit}
 use Rattle.host_worker.proofs.server.Server.finish.Goals as goal

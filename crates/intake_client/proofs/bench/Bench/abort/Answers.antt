@@ -1,7 +1,5 @@
 use Rattle.std.proofs.Common.{ap, refl}
-use Rattle.host_intake.specs.declared.entry.IntakeEntry.TheVariants.{Turned}
-use Rattle.host_intake.specs.declared.entry.Phase.TheVariants.{Aborted}
-use Rattle.host_intake.specs.State.{IntakeState}
+use Rattle.host_intake.specs.{Turned, Aborted, IntakeState}
 use Rattle.intake_client.proofs.Benches.{kept_pushed}
 use Rattle.intake_client.proofs.bench.Bench.abort.Goals as goal
 

@@ -1,6 +1,5 @@
 use Rattle.std.proofs.Common.{subst, sym}
-use Rattle.intake_client.specs.Benched.{BenchState}
-use Rattle.intake_client.specs.Flights.{Flies, IsOtherThan}
+use Rattle.intake_client.specs.{BenchState, Flies, IsOtherThan}
 use Rattle.intake_client.proofs.Benches.{kept_landed}
 use Rattle.intake_client.proofs.bench.Bench.end_beside.Goals as goal
 

@@ -1,6 +1,5 @@
 use Rattle.std.proofs.Common.{Some, subst, sym}
-use Rattle.intake_client.specs.Benched.{BenchState}
-use Rattle.intake_client.specs.Flights.{Flies}
+use Rattle.intake_client.specs.{BenchState, Flies}
 use Rattle.intake_client.proofs.Benches.{kept_flying}
 use Rattle.intake_client.proofs.bench.Bench.let_fly.Goals as goal
 

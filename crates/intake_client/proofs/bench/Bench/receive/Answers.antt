@@ -1,6 +1,5 @@
 use Rattle.std.proofs.Common.{ap, refl}
-use Rattle.host_intake.specs.declared.entry.IntakeEntry.TheVariants.{Passed}
-use Rattle.host_intake.specs.State.{IntakeState}
+use Rattle.host_intake.specs.{Passed, IntakeState}
 use Rattle.intake_client.proofs.Benches.{kept_pushed}
 use Rattle.intake_client.proofs.bench.Bench.receive.Goals as goal
 

@@ -1,6 +1,5 @@
 use Rattle.std.proofs.Common.{subst}
-use Rattle.intake_client.specs.Benched.{BenchState}
-use Rattle.intake_client.specs.Takes.{IsTaken}
+use Rattle.intake_client.specs.{BenchState, IsTaken}
 use Rattle.intake_client.proofs.Benches.{beside, kept_taken}
 use Rattle.intake_client.proofs.bench.Bench.take_next.Goals as goal
 

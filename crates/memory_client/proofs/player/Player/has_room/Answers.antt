@@ -1,6 +1,6 @@
 use Rattle.std.proofs.Common.{◌+◌, length, ap, arith}
 use Rattle.std.proofs.lemmas.Bool.{leb-true}
-use Rattle.host_memory.specs.State.{history}
+use Rattle.host_memory.specs.{history}
 use Rattle.memory_client.proofs.Told.{pins_few, used_few}
 use Rattle.memory_client.proofs.player.Player.has_room.Goals as goal
 

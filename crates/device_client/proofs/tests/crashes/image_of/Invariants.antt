@@ -1,5 +1,0 @@
-use Rattle.std.proofs.Common.{◌≡◌}
-use Rattle.device_client.proofs.tests.crashes.image_of.Given as goal
-
-abbrev pub invariant-loop-b : goal.invariant-loop-b
-invariant-loop-b g l = g.D.Disk.shape l.disk ≡ g.D.Disk.shape l.initial.disk

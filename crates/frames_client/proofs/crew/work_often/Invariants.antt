@@ -1,6 +1,0 @@
-use Rattle.std.proofs.Common.{◌≡◌}
-use Rattle.host_frames.specs.Seats.{seat_pool, pool_id}
-use Rattle.frames_client.proofs.crew.work_often.Given as goal
-
-abbrev pub invariant-loop : goal.invariant-loop
-invariant-loop l = seat_pool l.worker.seat ≡ pool_id l.pool

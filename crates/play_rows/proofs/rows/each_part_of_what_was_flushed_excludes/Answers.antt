@@ -1,5 +1,0 @@
-use Rattle.play_rows.proofs.Missing.{flushed_parts_exclude}
-use Rattle.play_rows.proofs.rows.each_part_of_what_was_flushed_excludes.Goals as goal
-
-pub returns : goal.returns
-returns c = flushed_parts_exclude

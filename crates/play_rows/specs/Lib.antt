@@ -1,4 +1,0 @@
-pub mod Crash
-pub mod Lines
-pub mod Missing
-pub mod Opened

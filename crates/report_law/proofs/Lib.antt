@@ -1,4 +1,0 @@
-pub mod Shares
-pub mod Sessions
-pub mod Frames
-pub mod Reports

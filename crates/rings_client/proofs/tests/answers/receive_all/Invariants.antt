@@ -1,8 +1,0 @@
-use Rattle.std.proofs.Common.{◌≡◌}
-use Rattle.rings_client.proofs.tests.answers.receive_all.Given as goal
-
-abbrev pub invariant-loop : goal.invariant-loop
-invariant-loop g l = record {
-  ring : l.taker.ring ≡ l.fn.taker.ring;
-  senders : l.taker.senders ≡ l.fn.taker.senders;
-}

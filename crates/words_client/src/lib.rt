@@ -1,5 +1,0 @@
-//! The tests of `host_words`: words of a call, and the command that they are.
-#![tactic(auto)]
-
-#[cfg(test)]
-mod reading;
