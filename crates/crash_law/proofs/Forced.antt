@@ -1,15 +1,15 @@
 -- A forced write that was answered 0 outlives a crash.
-use Rattle.std.proofs.Common.{◌≡◌, ℕ, ◌+◌, ◌<◌, ◌==◌, true, not, List, length, take, Some, refl, sym, subst, arith}
+use Rattle.std.proofs.Common.{◌≡◌, ℕ, ◌+◌, ◌<◌, ◌==◌, not, List, length, take, Some, refl, sym, subst, arith}
 use Rattle.std.specs.List.{slice_get}
 use Rattle.std.proofs.lemmas.Bool.{eqb-true}
 use Rattle.std.proofs.lemmas.List.{take_all}
-use Rattle.host_block.specs.{is_flush, puts_bytes, IsCrashImage, block_at}
+use Rattle.host_block.specs.{is_flush, puts_bytes, IsCrashImage}
 use Rattle.host_block.proofs.Places.{from_filter, from_take}
 use Rattle.host_record.specs.{Write}
 use Rattle.host_model.specs.{Step, changes_of, IsLawfulSession, request_at, requests}
 use Rattle.host_model.proofs.ListTests.{both}
 use Rattle.host_report.specs.{Report, SessionReport, IsLawful, session_of}
-use Rattle.crash_law.specs.{HasSurvived, ForcedWritesSurvive, IsForcedWrite, KeepsOwnFlushed, OwnFlushesKeep, WasFlushed, WerePutSince, WroteBlock}
+use Rattle.crash_law.specs.{HasSurvived, ForcedWritesSurvive, IsForcedWrite, KeepsOwnFlushed, OwnFlushesKeep, WasFlushed, WroteBlock}
 use Rattle.crash_law.proofs.Steps.{forcing, last_two, writing}
 use Rattle.crash_law.proofs.Survival.{own_before, session_lawful, survives_flush}
 

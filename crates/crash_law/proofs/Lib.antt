@@ -2,6 +2,7 @@ pub mod Places
 pub mod Barriers
 pub mod Accepted
 pub mod Steps
+pub mod CarriedOut
 pub mod Survival
 pub mod Ended
 pub mod FlushOrder

@@ -17,7 +17,7 @@ use Rattle.crash_law.proofs.Accepted.{accepted_so}
 
 -- ---- all steps
 
-all_made : (asks : List Ask) (steps : List Step) (k : ℕ) (ask : Ask) → carries_out asks steps ≡ true → ended asks steps ≡ status.Ok → slice_get asks k ≡ Some ask
+pub all_made : (asks : List Ask) (steps : List Step) (k : ℕ) (ask : Ask) → carries_out asks steps ≡ true → ended asks steps ≡ status.Ok → slice_get asks k ≡ Some ask
     → (x : Step) × (slice_get steps k ≡ Some x) × (is_step_for ask x ≡ true) × (x.faulted ≡ false)
 all_made [] steps zero ask c e at = absurd (cc)
 all_made [] steps (suc k) ask c e at = absurd (cc)
@@ -42,13 +42,13 @@ last_two true true false e = absurd (cc)
 last_two true false c e = absurd (cc)
 last_two false b c e = absurd (cc)
 
-changes : (f p q : Bool) → f ≡ false → p ≡ true → q ≡ true → (not f && p && q) ≡ true
+pub changes : (f p q : Bool) → f ≡ false → p ≡ true → q ≡ true → (not f && p && q) ≡ true
 changes false true true e g h = refl
 changes true p q e g h = absurd (cc)
 changes false false q e g h = absurd (cc)
 changes false true false e g h = absurd (cc)
 
-flushes : (f p : Bool) → f ≡ false → p ≡ true → (not f && p) ≡ true
+pub flushes : (f p : Bool) → f ≡ false → p ≡ true → (not f && p) ≡ true
 flushes false true e g = refl
 flushes true p e g = absurd (cc)
 flushes false false e g = absurd (cc)
@@ -65,26 +65,26 @@ trim_puts op.Read e = absurd (cc)
 trim_puts op.Write e = absurd (cc)
 trim_puts op.Flush e = absurd (cc)
 
-flush_is : (o : Op) → same_op o op.Flush ≡ true → is_flush o ≡ true
+pub flush_is : (o : Op) → same_op o op.Flush ≡ true → is_flush o ≡ true
 flush_is op.Flush e = refl
 flush_is op.Read e = absurd (cc)
 flush_is op.Write e = absurd (cc)
 flush_is op.Trim e = absurd (cc)
 
-in_front : {A : Type 0} (xs ys : List A) (n : ℕ) (x : A) → slice_get xs n ≡ Some x → slice_get (xs ++ ys) n ≡ Some x
+pub in_front : {A : Type 0} (xs ys : List A) (n : ℕ) (x : A) → slice_get xs n ≡ Some x → slice_get (xs ++ ys) n ≡ Some x
 in_front [] ys zero x at = absurd (cc)
 in_front [] ys (suc n) x at = absurd (cc)
 in_front (y ∷ xs) ys zero x at = at
 in_front (y ∷ xs) ys (suc n) x at = in_front xs ys n x at
 
-at_end : {A : Type 0} (xs : List A) (n : ℕ) (x : A) → n ≡ length xs → slice_get (xs ++ x ∷ []) n ≡ Some x
+pub at_end : {A : Type 0} (xs : List A) (n : ℕ) (x : A) → n ≡ length xs → slice_get (xs ++ x ∷ []) n ≡ Some x
 at_end [] zero x is = refl
 at_end [] (suc n) x is = absurd (omega (arith, is))
 at_end (y ∷ xs) zero x is = absurd (omega (arith, is))
 at_end (y ∷ xs) (suc n) x is = at_end xs n x (omega (arith, is))
 
 -- the step that a write or trim asks for on its block k
-asks_for : (kind : Opcode) (range : Range) (r : Request) (k : ℕ) → changes_blocks kind ≡ true → k < r.length
+pub asks_for : (kind : Opcode) (range : Range) (r : Request) (k : ℕ) → changes_blocks kind ≡ true → k < r.length
     → (ask : Ask) × (slice_get (asked_by (Some kind) range r) k ≡ Some ask) × (ask.block ≡ range.first + r.dev_offset + k) × ((o : Op) → same_op o ask.op ≡ true → puts_bytes o ≡ true)
 asks_for kind range r k is lt = at kind is
   where

@@ -14,4 +14,5 @@ pub mod Starting
 pub mod Taking
 pub mod Unroomed
 pub mod Finishing
+pub mod Forced
 pub mod Crossing

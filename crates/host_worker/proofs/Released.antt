@@ -5,7 +5,6 @@ use Rattle.std.proofs.lemmas.Bool.{eq-eqb}
 use Rattle.std.proofs.lemmas.List.{map-append}
 use Rattle.std.proofs.lemmas.List.Sums.{sum_by-cons, sum_by_push}
 use Rattle.host_hand.specs.{pages_by, released_by}
-use Rattle.host_hand.specs.Frames as frames
 use Rattle.host_memory.specs.{page_count_of, events}
 use Rattle.host_model.specs.{MemEntry, Release, map_with_before}
 use Rattle.host_session.specs.{pages_of_ids, releases_by, entry_by}

@@ -4,7 +4,7 @@ use Rattle.std.specs.Prelude.{MatchOption, nat_lt, slice_get, slice_set, sum_by}
 use Rattle.std.proofs.lemmas.Bool.{eqb-false, eqb-true, ltb-false, ltb-true}
 use Rattle.host_hand.specs.{CannotTake, IsVisitTold, begun_by, done_at, finished, Visit}
 use Rattle.host_hand.specs.declared.visit.Visit.TheVariants as visit
-use Rattle.host_intake.specs.{is_over, phase_in}
+use Rattle.host_intake.specs.{is_over}
 use Rattle.host_io.specs.declared.disk.Disk as disk
 use Rattle.host_session.specs.{SessionHand}
 use Rattle.host_turn.specs.{seen_by}

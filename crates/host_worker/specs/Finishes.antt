@@ -1,6 +1,6 @@
 -- What has to hold where a server is finished, and how its parts come together.
-use Rattle.std.specs.Prelude.{◌≡◌, ℕ, ◌+◌, ◌≤◌, Bool, true, List, [], ◌∷◌, ◌++◌, length, map}
-use Rattle.std.specs.Prelude.{filter_map, slice_get, Option, Some, None, All, vec_capacity}
+use Rattle.std.specs.Prelude.{◌≡◌, ℕ, ◌+◌, ◌≤◌, Bool, true, List, ◌++◌, length, map}
+use Rattle.std.specs.Prelude.{filter_map, slice_get, Some, None, All, vec_capacity}
 use Rattle.host_io.specs.declared.disk.Disk as disk
 use Rattle.host_report.specs.declared.session.SessionReport.{SessionReport}
 use Rattle.host_session.specs.declared.hand.SessionHand.{SessionHand}

@@ -30,6 +30,9 @@
 --   Finishes without_room: a hand without the room for closing
 --   Finishes AreBack: each session has what the hands had of it
 --   Finishes HasTakenBack: The hands were taken apart, and each part came to its place
+--   Forced IsForcedLanding: The record that landed is a forced write, taken so, that ended well
+--   Forced KeepsForcedWrites: Whichever history of the device begins with these steps, each ..
+--   Forced KeepsForcedOfEach: at each of its sessions
 --   Gathered reported: the report that was gathered
 --   Gathered report_on: the report of these ends, whether or not it is kept
 --   Gathered IsReportGathered: A report of these ends, which are those of a server with these ..
@@ -106,6 +109,7 @@
 pub mod Accounts
 pub mod Ends
 pub mod Finishes
+pub mod Forced
 pub mod Gathered
 pub mod Hands
 pub mod Laws

@@ -1,5 +1,5 @@
 -- What a report has of a session's end.
-use Rattle.std.specs.Prelude.{◌≡◌, List, [], ◌∷◌, ◌++◌}
+use Rattle.std.specs.Prelude.{◌≡◌, [], ◌∷◌, ◌++◌}
 use Rattle.host_block.specs.Room.{WithRoom}
 use Rattle.host_log.specs.Switch.{SwitchedLog}
 use Rattle.host_report.specs.declared.session.SessionReport.{SessionReport}

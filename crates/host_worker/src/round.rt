@@ -2,6 +2,7 @@
 ghost use Rattle.std.specs.Prelude.{◌≡◌, ◌+◌, ◌<◌, ◌≤◌, length, Some};
 ghost use Rattle.host_hand.specs.Visits.{done_at, count_told};
 ghost use Rattle.host_worker.specs.Accounts.{HasWorked};
+ghost use Rattle.host_worker.specs.Forced.{KeepsForcedOfEach};
 ghost use Rattle.host_worker.specs.Hands.{IsHandOf};
 ghost use Rattle.host_worker.specs.Servers.{IsServer, session_count};
 ghost use Rattle.host_worker.specs.Turns.{AreOthersSame, HasVisited, IsNoteFor, IsOwnTold, IsRound};
@@ -32,6 +33,7 @@ pub fn turn<R: Wait, D: Disk, G: Gate>(
     ensures worked { HasWorked hand.old hand.new }
     ensures answer { IsRound 0 (session_count server.now) hand.old hand.new result }
     ensures once { begun_in hand.new ≡ begun_in hand.old + things_in result }
+    ensures forced { KeepsForcedOfEach server.now hand.new }
 {
     let start = hand.next;
     let count = count_of(server);

@@ -1,6 +1,7 @@
 use Rattle.std.proofs.Common.{◌≡◌, ℕ, ◌≤◌, sym, ap, subst, ◌∙◌, arith}
 use Rattle.host_worker.specs.{Turn, Did, IsRound, things_in}
 use Rattle.host_worker.proofs.Closed.{has_worked_then}
+use Rattle.host_worker.proofs.Forced.{forced_of_each}
 use Rattle.host_worker.proofs.Rounds.{did_wide, done_is, not_done, nothing_in, things_joined, two_rounds}
 use Rattle.host_worker.proofs.round.turn.Goals as goal
 
@@ -40,3 +41,9 @@ returns-clause-once g c =
     let second = c.go_over-before in
     let undone = sym c.has_done.ensures ∙ c.if-has_done.false in
     omega (arith, first.ensures.once, second.ensures.once, nothing_in first.result undone, ap things_in c.joined.ensures, things_joined first.result second.result undone)
+
+pub returns-then-has_done-clause-forced : goal.returns-then-has_done-clause-forced
+returns-then-has_done-clause-forced g c = forced_of_each c.args.server.now c.go_over-behind.new.hand c.go_over-behind.ensures.hand
+
+pub returns-clause-forced : goal.returns-clause-forced
+returns-clause-forced g c = forced_of_each c.args.server.now c.go_over-before.new.hand c.go_over-before.ensures.hand
